@@ -1,0 +1,2 @@
+-- Definitions that the contracts of several crates cite.
+pub mod CallTable
