@@ -1,9 +1,9 @@
 -- What a call table has for each block. Assumes nothing.
-use mathlib.Core.Path.{_≡_, refl, sym, ap, subst, _∙_}
-use mathlib.Core.List.{List, [], _∷_, _++_}
+use mathlib.Core.Path.{_≡_, refl, sym, subst, _∙_}
+use mathlib.Core.List.{List, []}
 use mathlib.Core.Logic.{⊎-elim}
-use Prim.Native.Nat.{ℕ, zero, suc, _+_, _*_, _<_, _≤_}
-use native.Mathlib.Nat.{not-suc-le-zero, le-of-suc-le-suc, eq-or-lt-of-le, add-comm}
+use Prim.Native.Nat.{ℕ, zero, suc, _*_, _<_}
+use native.Mathlib.Nat.{not-suc-le-zero, le-of-suc-le-suc, eq-or-lt-of-le}
 use native.Mathlib.Omega.{arith}
 use lib.ListN.{length, getD, take, drop, length-append, List·getD-append}
 use lib.Seq.{getD-at}
@@ -21,6 +21,7 @@ module _ (counts names : List ℕ) where
   calls-at zero b l = absurd (not-suc-le-zero l)
   calls-at (suc n) b l =
       ⊎-elim
-      (λ e. subst (λ (k : ℕ). getD (callsFrom counts names (suc n)) k [] ≡ take (getD counts k 0) (drop (8 * k) names)) (sym e) (getD-at (callsFrom counts names n) _ [] [] n (calls-length n)))
+      (λ e. subst (λ (k : ℕ). getD (callsFrom counts names (suc n)) k [] ≡ take (getD counts k 0) (drop (8 * k) names)) (sym e)
+      (getD-at (callsFrom counts names n) _ [] [] n (calls-length n)))
       (λ lt. List·getD-append (callsFrom counts names n) _ [] b (rw (calls-length n) lt) ∙ calls-at n b lt)
       (eq-or-lt-of-le (le-of-suc-le-suc l))

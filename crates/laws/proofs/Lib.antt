@@ -1,3 +1,8 @@
 -- Laws that other crates cite.
 pub mod Search
+pub mod Lists
 pub mod CallTable
+pub mod Pack
+pub mod Ascending
+pub mod Decoded
+pub mod View

@@ -1,2 +1,4 @@
 -- Definitions that the contracts of several crates cite.
 pub mod CallTable
+pub mod Fit
+pub mod Conflict

@@ -3,7 +3,7 @@
 /// The refusals of document 01's three tables, by its numbers.
 #[derive(Clone, Copy)]
 #[repr(u32)]
-pub enum Code {
+pub(crate) enum Code {
     ImageLength = 1,
     Kind = 2,
     Cut = 3,
@@ -43,14 +43,14 @@ pub struct Answer {
 }
 
 impl Answer {
-    pub fn refused(code: Code, place: usize) -> Answer {
+    pub(crate) fn refused(code: Code, place: usize) -> Answer {
         Answer {
             code: code as u32,
             place: place as u32,
         }
     }
 
-    pub fn of(outcome: Result<(), Answer>) -> Answer {
+    pub(crate) fn of(outcome: Result<(), Answer>) -> Answer {
         outcome.err().unwrap_or_default()
     }
 }

@@ -1,7 +1,7 @@
 //! Judging: the codes 9 to 15 over the decoded blocks, and what stepping needs of them.
 
 use crate::answer::{Answer, Code, Judged};
-use crate::block::{Block, Body, Call};
+use crate::block::{Block, Body, Call, Point};
 use crate::graph::{self, Uses};
 use crate::image::{self, BLOCKS};
 use crate::machine::ROWS;
@@ -24,6 +24,12 @@ pub struct Label {
     pub exit: Seat,
     pub begin: Seat,
     pub end: Seat,
+}
+
+impl Label {
+    fn counts(&self) -> [u8; 4] {
+        [self.entry, self.exit, self.begin, self.end].map(|seat| seat.count)
+    }
 }
 
 /// An accepted image. A process block goes by the number of its lowest block.
@@ -101,19 +107,17 @@ impl<'a> Program<'a> {
 
     /// Code 10.
     fn judge_labels(&self) -> Result<(), Answer> {
+        let is_bad = |point: &Point| {
+            let counts = if point.is_border() {
+                [0, 0, 1, 1]
+            } else {
+                [1, 1, 0, 0]
+            };
+            let mut labels = point.labels().iter();
+            labels.any(|&label| self.labels[usize::from(label)].counts() != counts)
+        };
         self.refuse_lowest(Code::LabelCount, |block| {
-            [block.entry, block.exit].iter().any(|point| {
-                let expected = if point.is_border() {
-                    [0, 0, 1, 1]
-                } else {
-                    [1, 1, 0, 0]
-                };
-                point.labels().iter().any(|&label| {
-                    let label = &self.labels[usize::from(label)];
-                    [label.entry, label.exit, label.begin, label.end].map(|seat| seat.count)
-                        != expected
-                })
-            })
+            is_bad(&block.entry) || is_bad(&block.exit)
         })
     }
 
@@ -189,11 +193,12 @@ impl<'a> Program<'a> {
                 continue;
             };
             let caller = self.process_blocks[number];
-            let on_circle = call.labels().iter().any(|&label| {
+            // A caller that names its own label reaches itself.
+            let is_on_circle = |&label: &u8| {
                 let called = self.process_block(label);
-                called == caller || reached[usize::from(called)] >> caller & 1 == 1
-            });
-            if on_circle {
+                reached[usize::from(called)] >> caller & 1 == 1
+            };
+            if call.labels().iter().any(is_on_circle) {
                 return Err(Answer::refused(Code::CallCircle, number));
             }
         }
@@ -201,8 +206,8 @@ impl<'a> Program<'a> {
     }
 
     /// Code 15, else main's peak. A caller reaches more process blocks than each that it calls,
-    /// so calls taken in the order of that number meet only finished depths and peaks. Process
-    /// blocks deeper than main may be can have peaks over any word: those stay at the largest.
+    /// so calls taken in the order of that number meet only finished depths and peaks. Only
+    /// process blocks deeper than main may be can have a peak over any word.
     fn judge_size(&self, reached: &[u128; BLOCKS]) -> Result<u32, Answer> {
         let mut order = [None; BLOCKS];
         let mut count = 0;

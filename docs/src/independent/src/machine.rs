@@ -110,7 +110,8 @@ impl Survey {
     pub fn of(program: &Program, machine: &Machine) -> Result<Survey, Code> {
         let live = machine[LIVE_WORD] as usize;
         let history = machine[HISTORY_WORD] as usize;
-        let is_zero = |words: &[u32]| words.iter().all(|&word| word == 0);
+        // Without an early way out many words are looked at together.
+        let is_zero = |words: &[u32]| words.iter().fold(0, |all, word| all | word) == 0;
         let counts_fit = (1..=ROWS).contains(&live) && history <= ENTRIES;
         if !counts_fit
             || !is_zero(&machine[ROW_WORD + 3 * live..ENTRY_WORD])
@@ -213,7 +214,7 @@ fn stands_in(program: &Program, row: ProcessRow, own_label: u8) -> bool {
     }
 }
 
-/// The block whose exit holds the label of a process that is not at begin.
+/// The block whose exit holds the label: at run the ordinary label, else the end.
 pub fn block_before(program: &Program, row: ProcessRow) -> usize {
     let label = &program.labels[row.label as usize];
     let seat = if row.stage == RUN {
@@ -224,11 +225,9 @@ pub fn block_before(program: &Program, row: ProcessRow) -> usize {
     usize::from(seat.block)
 }
 
-/// The call at whose exit label a process stands.
+/// The call at whose exit label a process stands. At begin and end there is none, as the exit of
+/// a call is no end.
 fn call_before<'a>(program: &Program<'a>, row: ProcessRow) -> Option<&'a Call> {
-    if row.stage != RUN {
-        return None;
-    }
     match &program.blocks[block_before(program, row)].body {
         Body::Call(call) => Some(call),
         Body::Instruction(_) => None,

@@ -146,7 +146,7 @@ fn made_up(random: &mut Random) -> Run {
 fn code_27_is_what_the_three_conditions_say() {
     let mut random = Random(0x0123_4567_89ab_cdef);
     let mut seen = [0, 0];
-    for _ in 0..3000 {
+    for _ in 0..1000 {
         let run = made_up(&mut random);
         let graph = run.graph();
         let mut rows = [Row::default(); ROWS];

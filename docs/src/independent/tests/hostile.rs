@@ -23,7 +23,7 @@ fn spoil(image: &mut Vec<u8>, random: &mut Random) {
 fn spoilt_images_are_judged_with_many_codes() {
     let mut random = Random(0xabcd_ef01_2345_6789);
     let mut met = [0; 29];
-    for _ in 0..60_000 {
+    for _ in 0..20_000 {
         let mut image = worked_image();
         spoil(&mut image, &mut random);
         let judged = judge(&image);
@@ -90,7 +90,7 @@ fn spoilt_machines_are_stepped_or_left() {
                 9 <- | P x9 | end 6";
     let mut random = Random(0x7777_1111_2222_3333);
     let mut codes = [0; 29];
-    for _ in 0..1500 {
+    for _ in 0..700 {
         let mut run = Run::assembled(text, &[]);
         for _ in 0..random.below(25) {
             let rows = run.rows();

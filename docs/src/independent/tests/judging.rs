@@ -336,10 +336,35 @@ fn a_hostile_image_is_judged_without_exponential_work() {
 }
 
 #[test]
-fn a_peak_over_every_word_is_still_over_64() {
-    // 40 levels of 8 names each, 8 to the power of 40.
-    let names: Vec<[u8; 8]> = (1..=40).map(|label| [label; 8]).collect();
-    let levels: Vec<(u8, &[u8])> = (0..40).zip(names.iter().map(|name| &name[..])).collect();
-    let text = callers(&levels) + "begin 40 | skip | end 40";
-    assert_eq!(refusal(&text), (15, 0));
+fn a_peak_over_every_word_does_no_harm() {
+    // Label 1 is the top of 40 levels of 8 names each, 8 to the power of 40.
+    let names: Vec<[u8; 8]> = (2..=41).map(|label| [label; 8]).collect();
+    let levels: Vec<(u8, &[u8])> = (1..41).zip(names.iter().map(|name| &name[..])).collect();
+    let text = callers(&levels) + "begin 41 | skip | end 41\n";
+    let apart = text.clone() + "begin 0 | skip | end 0";
+    assert_eq!(judge(&assemble(&apart)).peak, 1);
+    let called = "begin 0 | skip | -> 50
+                  50 <- | call 1 | -> 51
+                  51 <- | skip | end 0";
+    assert_eq!(refusal(&(text + called)), (15, 0));
+}
+
+#[test]
+fn the_order_of_process_blocks_does_not_matter() {
+    let leaf = "begin 9 | skip | end 9\n".to_string();
+    let levels: [(u8, &[u8]); 3] = [(0, &[5, 9]), (5, &[6, 9]), (6, &[9, 9])];
+    for order in [
+        [0, 1, 2],
+        [0, 2, 1],
+        [1, 0, 2],
+        [1, 2, 0],
+        [2, 0, 1],
+        [2, 1, 0],
+    ] {
+        let text = callers(&order.map(|level| levels[level]));
+        for text in [text.clone() + &leaf, leaf.clone() + &text] {
+            let judged = judge(&assemble(&text));
+            assert_eq!((judged.code, judged.peak), (0, 7), "{text}");
+        }
+    }
 }

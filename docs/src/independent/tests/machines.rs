@@ -85,6 +85,9 @@ fn code_17_is_a_count_out_of_range() {
     for live in [0, 65, u32::MAX] {
         assert_eq!(code_after(|run| run.machine[LIVE_WORD] = live), 17);
     }
+    let mut no_row = Run::new(worked_image(), &[]);
+    no_row.machine[LIVE_WORD] = 0;
+    assert_eq!(no_row.step(0, 0), 17);
     for history in [4097, u32::MAX] {
         assert_eq!(code_after(|run| run.machine[HISTORY_WORD] = history), 17);
     }
@@ -143,6 +146,8 @@ fn rows_ascend_as_unsigned_words() {
 fn code_17_is_no_root_in_main() {
     let none = |run: &mut Run| run.set_rows(&[(1, 5, BEGIN), (2, 6, END)]);
     assert_eq!(code_after(none), 17);
+    let other_number = |run: &mut Run| run.set_rows(&[(1, 0, BEGIN)]);
+    assert_eq!(code_after(other_number), 17);
     let elsewhere = |run: &mut Run| run.set_rows(&[(0, 5, BEGIN)]);
     assert_eq!(code_after(elsewhere), 17);
     let at_main = |run: &mut Run| run.set_rows(&[(0, 0, BEGIN)]);
@@ -171,15 +176,14 @@ fn code_17_is_a_label_and_stage_of_no_process_block_of_its_own() {
         (0, 2, END),        // an ordinary label at end
         (0, 5, END),        // another's own label
     ] {
-        let mut history = vec![(0, 0), (0, 1)];
-        if row.2 == END {
-            history.push((0, 3));
+        // Whatever the newest entry is, as a label of no block has no block before it either.
+        for block in 0..5 {
+            let change = |run: &mut Run| {
+                run.set_rows(&[row]);
+                run.set_history(&[(0, block)]);
+            };
+            assert_eq!(code_after(change), 17, "{row:?} after {block}");
         }
-        let change = |run: &mut Run| {
-            run.set_rows(&[row]);
-            run.set_history(&history);
-        };
-        assert_eq!(code_after(change), 17, "{row:?}");
     }
     let child = |run: &mut Run| run.set_rows(&[(0, 2, RUN), (1, 6, BEGIN), (2, 6, END)]);
     assert_eq!(code_after(child), 17);

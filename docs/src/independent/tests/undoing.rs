@@ -68,7 +68,7 @@ fn the_newest_entry_always_goes_back_and_all_of_them_to_the_start() {
     let mut random = Random(0x9e37_79b9_7f4a_7c15);
     for program in PROGRAMS {
         let mut longest = 0;
-        for _ in 0..20 {
+        for _ in 0..8 {
             let mut run = Run::assembled(program, &FIRST);
             let started = run.machine.clone();
             wander(&mut run, &mut random, 120);
@@ -86,12 +86,15 @@ fn the_newest_entry_always_goes_back_and_all_of_them_to_the_start() {
 fn undoing_in_any_order_that_is_allowed_comes_to_the_start() {
     let mut random = Random(0x1234_5678_9abc_def1);
     for program in PROGRAMS {
-        for _ in 0..20 {
+        for _ in 0..8 {
             let mut run = Run::assembled(program, &FIRST);
             let started = run.machine.clone();
             wander(&mut run, &mut random, 100);
-            while !run.history().is_empty() {
+            for _ in 0..100_000 {
                 let rows = run.rows();
+                if run.history().is_empty() {
+                    break;
+                }
                 run.undo(rows[random.below(rows.len())].0);
             }
             assert!(run.machine == started, "{program}");
@@ -104,7 +107,7 @@ fn a_step_and_its_undo_leave_every_word() {
     let mut random = Random(0xfeed_f00d_dead_beef);
     for program in PROGRAMS {
         let mut run = Run::assembled(program, &FIRST);
-        for _ in 0..100 {
+        for _ in 0..60 {
             wander(&mut run, &mut random, 1);
             for (process, _, _) in run.rows() {
                 let before = run.machine.clone();

@@ -1,0 +1,5 @@
+-- What the contracts and theorems of this crate cite beside rules and laws.
+pub mod Acyclic
+pub mod Table
+pub mod Grid
+pub mod Peaks

@@ -1,0 +1,3 @@
+-- Laws that other crates cite.
+pub mod Holds
+pub mod Written

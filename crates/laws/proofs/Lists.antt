@@ -1,0 +1,64 @@
+-- Laws of the plain words of Base: choice, tests over a list, the elements that pass. Assumes nothing.
+use mathlib.Core.Path.{_≡_, refl, ap, _∙_}
+use mathlib.Core.Bool.{Bool, true, false, not, _&&_}
+use mathlib.Core.List.{List, [], _∷_, _++_}
+use Prim.Native.Nat.{ℕ, zero, suc, _<_}
+use native.Mathlib.Nat.{not-suc-le-zero, le-of-suc-le-suc}
+use lib.ListN.{length, getD}
+use native.Mathlib.Omega.{arith}
+use Rattle.rules.specs.Base.{pick, each-of, those}
+
+pub true-false : {b : Bool} → b ≡ true → b ≡ false → ⊥
+true-false p q = let z : _≡_ {A = ℕ} 0 1 = cc in omega arith
+
+pub and-both : (a b : Bool) → (a && b) ≡ true → (a ≡ true) × (b ≡ true)
+and-both true b h = (refl, h)
+and-both false b h = absurd (true-false h refl)
+
+pub both-and : {a b : Bool} → a ≡ true → b ≡ true → (a && b) ≡ true
+both-and p q = rw (p, q)
+
+module _ {A : Type 0} where
+  pub each-append : (p : A → Bool) (l m : List A) → each-of p (l ++ m) ≡ (each-of p l && each-of p m)
+  unfolding each-of
+  each-append p [] m = refl
+  each-append p (a ∷ l) m = ap (λ (b : Bool). p a && b) (each-append p l m) ∙ assoc (p a) (each-of p l) (each-of p m)
+    where
+      assoc : (a b c : Bool) → (a && (b && c)) ≡ (a && b && c)
+      assoc true b c = refl
+      assoc false b c = refl
+
+  pub those-append : (p : A → Bool) (l m : List A) → those p (l ++ m) ≡ those p l ++ those p m
+  unfolding those pick
+  those-append p [] m = refl
+  those-append p (a ∷ l) m = go (p a) (those-append p l m)
+    where
+      go : (b : Bool) → those p (l ++ m) ≡ those p l ++ those p m → pick b (a ∷ those p (l ++ m)) (those p (l ++ m)) ≡ pick b (a ∷ those p l) (those p l) ++ those p m
+      go true ih = ap (λ (r : List A). a ∷ r) ih
+      go false ih = ih
+
+  -- where every element passes, all stay
+  pub those-all : (p : A → Bool) (l : List A) → each-of p l ≡ true → those p l ≡ l
+  unfolding those each-of pick
+  those-all p [] h = refl
+  those-all p (a ∷ l) h =
+      let e = and-both (p a) (each-of p l) h in
+      rw (e .0) (ap (λ (r : List A). a ∷ r) (those-all p l (e .1)))
+
+  -- where none does, none stays
+  pub those-none : (p : A → Bool) (l : List A) → each-of (λ a. not (p a)) l ≡ true → those p l ≡ []
+  unfolding those each-of pick
+  those-none p [] h = refl
+  those-none p (a ∷ l) h =
+      let e = and-both (not (p a)) (each-of (λ x. not (p x)) l) h in
+      rw (not-not (p a) (e .0)) (those-none p l (e .1))
+    where
+      not-not : (b : Bool) → not b ≡ true → b ≡ false
+      not-not true h = absurd (true-false h refl)
+      not-not false h = refl
+
+  -- the default plays no part within a list
+  pub getD-any : (l : List A) (i : ℕ) (d e : A) → i < length l → getD l i d ≡ getD l i e
+  getD-any [] i d e h = absurd (not-suc-le-zero h)
+  getD-any (a ∷ l) zero d e h = refl
+  getD-any (a ∷ l) (suc i) d e h = getD-any l i d e (le-of-suc-le-suc h)

@@ -1,0 +1,3 @@
+-- Laws that other crates cite.
+pub mod Tries
+pub mod Planned

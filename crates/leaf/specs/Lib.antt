@@ -1,0 +1,3 @@
+-- What the contracts of this crate cite beside rules.
+pub mod Shown
+pub mod Side

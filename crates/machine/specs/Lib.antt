@@ -1,0 +1,4 @@
+pub mod Edit
+pub mod Index
+pub mod Outcome
+pub mod RowOf

@@ -1,0 +1,1 @@
+// The customer's demands as theorems on the definitions of rules: no code.

@@ -1,0 +1,214 @@
+-- Well-formed rows stay so through a forward step, and memory stays one on which acts have inverses. Assumes nothing else.
+use mathlib.Core.Path.{_≡_, refl, sym, ap, _∙_, subst, fun-ext}
+use mathlib.Core.Logic.{_⊎_, inl, inr, _≢_}
+use mathlib.Core.Bool.{Bool, true, false}
+use mathlib.Core.Option.{Option, none, some}
+use Prim.Native.Nat.{ℕ, _+_, _*_, _≤_, _/_, _%_}
+use native.Mathlib.Omega.{arith}
+use native.Mathlib.Decide.{ℕ-discrete}
+use Rattle.theory.specs.Tests.{some-inj, bool-cases, true-false, eqb-other, not-true, none-some}
+use Rattle.theory.specs.Local.{slot, isKid, slot-range, kid-facts, Touches, disjoint, Outcome, view, put, put-outside, put-self, put-kid, view-kept}
+use Rattle.theory.specs.Program.{Program}
+use Rattle.theory.specs.Shapes.{C, Forward, Kids, atEnd, hasKids}
+use Rattle.theory.specs.Framing.{view-kid}
+use Rattle.theory.specs.Family.{Family, OfLabel, OkRows, view-at, view-out, view-put}
+use Rattle.theory.specs.Undoing.{is-none}
+use Rattle.theory.specs.Optional.{all-at, any-none, any-of, none-any, onto, slot-of}
+
+module _ {Place Memory Value : Type 0} {look : Memory → ℕ → Value} {reading writing : ℕ → ℕ → Bool}
+    (Π : Program Place Memory Value look reading writing) where
+  -- well-formed rows stay so
+  pub forward-row :
+      (ρ : Option Place) (k : Kids Π) (m : Memory) (o : Outcome Place Memory) → (x : (a : Place) → ρ ≡ some a → Π .valid a) → Forward Π ρ k m o →
+      (a : Place) × (a′ : Place) × (ρ ≡ some a) × (o .row ≡ some a′) × (Π .home a′ ≡ Π .home a) × Π .valid a′
+  forward-row ρ k m o x (inl L) = (
+    L .a,
+    L .a′,
+    L .row-is,
+    ap (λ z. z .row) (L .o-is),
+    Π .leaf-home (L .a) (L .a′) (L .b) m (L .m′) (L .plain) (L .entry-is) (L .acts),
+    Π .leaf-valid (L .a) (L .a′) (L .b) m (L .m′) (L .plain) (L .entry-is) (L .acts),
+  )
+  forward-row ρ k m o x (inr (inl F)) = (
+    F .a,
+    Π .out (F .b),
+    F .row-is,
+    ap (λ z. z .row) (F .o-is),
+    Π .out-home (F .b) (F .called) ∙ ap (Π .home) (sym (Π .call-in (F .a) (F .b) (F .called) (F .entry-is))),
+    Π .out-valid (F .b) (F .called),
+  )
+  forward-row ρ k m o x (inr (inr M)) = (M .a, M .a, M .row-is, ap (λ z. z .row) (M .o-is), refl, x (M .a) (M .row-is))
+
+  fork-kid : (b i : ℕ) (t : Option ℕ) → Π .isCall b ≡ true → Π .label b i ≡ t → (a : Place) → onto (Π .beginPlace) t ≡ some a → Π .valid a
+  fork-kid b i none c e a h = absurd (none-some h)
+  fork-kid b i (some l) c e a h = subst (Π .valid) (some-inj (Π .beginPlace l) a h) (Π .begin-valid b i l c e)
+
+  fork-each : (b i : ℕ) (t : Option ℕ) → Π .isCall b ≡ true → Π .label b i ≡ t → OfLabel Π (onto (Π .beginPlace) t) t
+  fork-each b i none c e = tt
+  fork-each b i (some l) c e = Π .begin-home b i l c e
+
+  forward-kid-valid :
+      (ρ : Option Place) (k : Kids Π) (m : Memory) (o : Outcome Place Memory) → Forward Π ρ k m o → (i : ℕ) → 1 ≤ i → i ≤ 8 → (a : Place) →
+      o .kids i ≡ some a → Π .valid a
+  forward-kid-valid ρ k m o (inl L) i lo hi a h =
+      absurd (none-some (sym (any-none k 8 (L .childless) i lo hi) ∙ sym (ap (λ z. z .kids i) (L .o-is)) ∙ h))
+  forward-kid-valid ρ k m o (inr (inl F)) i lo hi a h =
+      fork-kid (F .b) i (Π .label (F .b) i) (F .called) refl a (sym (ap (λ z. z .kids i) (F .o-is)) ∙ h)
+  forward-kid-valid ρ k m o (inr (inr M)) i lo hi a h = absurd (none-some (sym (ap (λ z. z .kids i) (M .o-is)) ∙ h))
+
+  pub kid-move : (a a′ : Place) (t : Option ℕ) → Π .home a′ ≡ Π .home a → OfLabel Π (some a) t → OfLabel Π (some a′) t
+  kid-move a a′ none e x = x
+  kid-move a a′ (some l) e x = e ∙ x
+
+  module _ (s : C Π) (p : ℕ) (ok : OkRows Π (s .rows)) (o : Outcome Place Memory) (sh : Forward Π (s .rows p) (view (s .rows) p) (s .memory) o) where
+    abbrev R₁ : ℕ → Option Place
+    R₁ = put (s .rows) p (o .row) (o .kids)
+
+    moved-row : (a : Place) × (a′ : Place) × (s .rows p ≡ some a) × (o .row ≡ some a′) × (Π .home a′ ≡ Π .home a) × Π .valid a′
+    moved-row = forward-row (s .rows p) (view (s .rows) p) (s .memory) o (λ a h. ok .places p a h) sh
+
+    places₁ : (q : ℕ) (a : Place) → R₁ q ≡ some a → Π .valid a
+    places₁ q a h = go (ℕ-discrete q p) (bool-cases (isKid p q))
+      where
+        go : Dec (q ≡ p) → (isKid p q ≡ true) ⊎ (isKid p q ≡ false) → Π .valid a
+        go (yes e) k =
+            let r : o .row ≡ some a = sym (put-self (s .rows) p (o .row) (o .kids)) ∙ ap R₁ (sym e) ∙ h in
+            subst (Π .valid) (some-inj (moved-row .1) a (sym (moved-row .3) ∙ r)) (moved-row .5)
+        go (no n) (inl k) =
+            let g = kid-facts p q k in
+            forward-kid-valid (s .rows p) (view (s .rows) p) (s .memory) o sh (q % 16) (g .0) (g .1) a
+            (sym (put-kid (s .rows) p (o .row) (o .kids) q k) ∙ h)
+        go (no n) (inr k) =
+            let z : Touches p q ≡ false = rw (eqb-other q p n, k) in
+            ok .places q a (sym (put-outside (s .rows) p (o .row) (o .kids) q z) ∙ h)
+
+    -- p itself
+    none-now : ((i : ℕ) → slot i ≡ true → o .kids i ≡ none) → hasKids Π (view R₁ p) ≡ true → ⊥
+    none-now h k =
+        true-false k (none-any (view R₁ p) 8 (λ i lo hi. view-put Π (s .rows) p (o .row) (o .kids) i (slot-of i lo hi) ∙ h i (slot-of i lo hi)))
+
+    family-self : hasKids Π (view R₁ p) ≡ true → Family Π R₁ p
+    family-self h = go sh
+      where
+        go : Forward Π (s .rows p) (view (s .rows) p) (s .memory) o → Family Π R₁ p
+        go (inl L) =
+            absurd (none-now (λ i k. let g = slot-range i k in ap (λ z. z .kids i) (L .o-is) ∙ any-none (view (s .rows) p) 8 (L .childless) i (g .0)
+            (g .1)) h)
+        go (inr (inl F)) =
+            record {
+              b = F .b;
+              called = F .called;
+              at-out = put-self (s .rows) p (o .row) (o .kids) ∙ ap (λ z. z .row) (F .o-is);
+              each =
+                  λ i k.
+                  subst
+                  (λ v. OfLabel Π v (Π .label (F .b) i))
+                  (sym (view-put Π (s .rows) p (o .row) (o .kids) i k ∙ ap (λ z. z .kids i) (F .o-is)))
+                  (fork-each (F .b) i (Π .label (F .b) i) (F .called) refl);
+            }
+        go (inr (inr M)) = absurd (none-now (λ i k. ap (λ z. z .kids i) (M .o-is)) h)
+
+    -- a row that is neither p's nor a child's of p
+    outside : (x : ℕ) → x ≢ p → (isKid p x ≡ true → ⊥) → R₁ x ≡ s .rows x
+    outside x n k = let z : Touches p x ≡ false = rw (eqb-other x p n, not-true (isKid p x) k) in put-outside (s .rows) p (o .row) (o .kids) x z
+
+    view-same : (q : ℕ) → ((i : ℕ) → slot i ≡ true → R₁ (16 * q + i) ≡ s .rows (16 * q + i)) → view R₁ q ≡ view (s .rows) q
+    view-same q h = fun-ext (λ i. go i (bool-cases (slot i)))
+      where
+        go : (i : ℕ) → (slot i ≡ true) ⊎ (slot i ≡ false) → view R₁ q i ≡ view (s .rows) q i
+        go i (inl k) = view-at Π R₁ q i k ∙ h i k ∙ sym (view-at Π (s .rows) q i k)
+        go i (inr k) = view-out Π R₁ q i k ∙ sym (view-out Π (s .rows) q i k)
+
+    -- no child of another process is a child of p
+    no-kid-of-both : (q i : ℕ) → q ≢ p → slot i ≡ true → isKid p (16 * q + i) ≡ true → ⊥
+    no-kid-of-both q i n k h =
+        let g = slot-range i k in
+        let f = kid-facts p (16 * q + i) h in
+        let e : q ≡ p = omega (arith, f .2) in
+        n e
+
+    -- q is a child of p: it has no children, since p could step
+    family-kid : (q : ℕ) → q ≢ p → isKid p q ≡ true → hasKids Π (view R₁ q) ≡ true → Family Π R₁ q
+    family-kid q n k h = absurd (go sh)
+      where
+        f : (1 ≤ q % 16) × (q % 16 ≤ 8) × (q / 16 ≡ p)
+        f = kid-facts p q k
+
+        same : view R₁ q ≡ view (s .rows) q
+        same =
+            view-same q
+            (λ i w. outside (16 * q + i) (λ e. let g = slot-range i w in omega (arith, f .0, f .1, f .2, e)) (no-kid-of-both q i n w))
+
+        F₀ : Family Π (s .rows) q
+        F₀ = ok .family q (subst (λ v. hasKids Π v ≡ true) same h)
+
+        seen : view (s .rows) p (q % 16) ≡ some (Π .out (F₀ .b))
+        seen = view-kid Π (s .rows) p q k ∙ F₀ .at-out
+
+        lone : hasKids Π (view (s .rows) p) ≡ false → ⊥
+        lone c = none-some (sym (any-none (view (s .rows) p) 8 c (q % 16) (f .0) (f .1)) ∙ seen)
+
+        go : Forward Π (s .rows p) (view (s .rows) p) (s .memory) o → ⊥
+        go (inl L) = lone (L .childless)
+        go (inr (inl F)) = lone (F .childless)
+        go (inr (inr M)) =
+            Π .out-entry (F₀ .b) (F₀ .called)
+            (is-none Π s p (Π .entryBlock (Π .out (F₀ .b)))
+            (all-at (atEnd Π) (view (s .rows) p) 8 (M .ended) (q % 16) (Π .out (F₀ .b)) (f .0) (f .1) seen))
+
+    -- q is the parent of p: p's process block is the same as before
+    family-parent : (q : ℕ) → q ≢ p → (isKid p q ≡ true → ⊥) → isKid q p ≡ true → Family Π R₁ q
+    family-parent q n k up =
+        record { b = F₀ .b; called = F₀ .called; at-out = outside q n k ∙ F₀ .at-out; each = λ i w. at i w (ℕ-discrete (16 * q + i) p) }
+      where
+        f : (1 ≤ p % 16) × (p % 16 ≤ 8) × (p / 16 ≡ q)
+        f = kid-facts q p up
+
+        F₀ : Family Π (s .rows) q
+        F₀ = ok .family q (any-of (view (s .rows) q) 8 (p % 16) (moved-row .0) (f .0) (f .1) (view-kid Π (s .rows) q p up ∙ moved-row .2))
+
+        at : (i : ℕ) → slot i ≡ true → Dec (16 * q + i ≡ p) → OfLabel Π (view R₁ q i) (Π .label (F₀ .b) i)
+        at i w (yes e) =
+            let old : view (s .rows) q i ≡ some (moved-row .0) = view-at Π (s .rows) q i w ∙ ap (s .rows) e ∙ moved-row .2 in
+            let new : view R₁ q i ≡ some (moved-row .1) = view-at Π R₁ q i w ∙ ap R₁ e ∙ put-self (s .rows) p (o .row) (o .kids) ∙ moved-row .3 in
+            subst (λ v. OfLabel Π v (Π .label (F₀ .b) i)) (sym new)
+            (kid-move (moved-row .0) (moved-row .1) (Π .label (F₀ .b) i) (moved-row .4)
+            (subst (λ v. OfLabel Π v (Π .label (F₀ .b) i)) old (F₀ .each i w)))
+        at i w (no d) =
+            subst
+            (λ v. OfLabel Π v (Π .label (F₀ .b) i))
+            (sym (view-at Π R₁ q i w ∙ outside (16 * q + i) d (no-kid-of-both q i n w) ∙ sym (view-at Π (s .rows) q i w)))
+            (F₀ .each i w)
+
+    family-other : (q : ℕ) → q ≢ p → (isKid p q ≡ true → ⊥) → (isKid q p ≡ true → ⊥) → hasKids Π (view R₁ q) ≡ true → Family Π R₁ q
+    family-other q n k l h =
+        let d = disjoint q p n l k in
+        let v : view R₁ q ≡ view (s .rows) q = view-kept (s .rows) p q (o .row) (o .kids) d in
+        let F₀ = ok .family q (subst (λ z. hasKids Π z ≡ true) v h) in
+        record {
+          b = F₀ .b;
+          called = F₀ .called;
+          at-out = outside q n k ∙ F₀ .at-out;
+          each = λ i w. subst (λ z. OfLabel Π (z i) (Π .label (F₀ .b) i))
+              (sym v) (F₀ .each i w);
+        }
+
+    family₁ : (q : ℕ) → hasKids Π (view R₁ q) ≡ true → Family Π R₁ q
+    family₁ q h = go (ℕ-discrete q p) (bool-cases (isKid p q)) (bool-cases (isKid q p))
+      where
+        go : Dec (q ≡ p) → (isKid p q ≡ true) ⊎ (isKid p q ≡ false) → (isKid q p ≡ true) ⊎ (isKid q p ≡ false) → Family Π R₁ q
+        go (yes e) k l = subst (λ z. Family Π R₁ z) (sym e) (family-self (subst (λ z. hasKids Π (view R₁ z) ≡ true) e h))
+        go (no n) (inl k) l = family-kid q n k h
+        go (no n) (inr k) (inl l) = family-parent q n (λ x. true-false x k) l
+        go (no n) (inr k) (inr l) = family-other q n (λ x. true-false x k) (λ x. true-false x l) h
+
+    pub ok₁ : OkRows Π R₁
+    ok₁ = record { places = places₁; family = family₁ }
+
+  pub fine₁ :
+      (s : C Π) (p : ℕ) → Π .fine (s .memory) → (o : Outcome Place Memory) → Forward Π (s .rows p) (view (s .rows) p) (s .memory) o →
+      Π .fine (o .memory)
+  fine₁ s p f o (inl L) =
+      subst (λ z. Π .fine (z .memory)) (sym (L .o-is)) (Π .leaf-fine (L .a) (L .a′) (L .b) (s .memory) (L .m′) f (L .plain) (L .entry-is) (L .acts))
+  fine₁ s p f o (inr (inl F)) = subst (λ z. Π .fine (z .memory)) (sym (F .o-is)) f
+  fine₁ s p f o (inr (inr M)) = subst (λ z. Π .fine (z .memory)) (sym (M .o-is)) f
