@@ -1,0 +1,26 @@
+-- `image::itself::operand_names` meets its contract: one answer for each variant of what was read. Assumes nothing.
+use borrow.Author.Needs.{needs}
+use Rattle.image.proofs.itself.operand_names.Statement.{statement}
+use Rattle.image.proofs.itself.operand_names.Tie as tie
+
+enum-told : tie.Need-enum-told
+enum-told c = search needs
+
+enum-known-o : tie.Need-enum-known-o
+enum-known-o c = search needs
+
+enum-known-o-2 : tie.Need-enum-known-o-2
+enum-known-o-2 c = search needs
+
+returns : tie.Need-returns
+returns c = search needs
+
+returns-2 : tie.Need-returns-2
+returns-2 c = simp (c .before .o .given .1)
+
+returns-3 : tie.Need-returns-3
+returns-3 c = simp (c .before .o2 .given .1)
+
+pub operand-names-spec : {M : Type 1} → statement M
+operand-names-spec =
+    tie.close (tie.spec enum-told enum-known-o enum-known-o-2 returns returns-2 returns-3)

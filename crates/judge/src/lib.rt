@@ -1,0 +1,89 @@
+// Judging an image, codes 1 to 15 with their places: what document 01 answers for any bytes.
+ghost use mathlib.Core.Path.{_≡_};
+ghost use mathlib.Core.List.{map};
+ghost use Prim.Native.Nat.{_≤_};
+ghost use lib.ListN.{take};
+ghost use Rattle.rules.specs.Base.{upFrom};
+ghost use Rattle.rules.specs.Labels.{home};
+ghost use Rattle.rules.specs.Judge.{judgedBlocks, judgement};
+ghost use Rattle.judge.specs.Parts.{judgedCalls, judgedNames};
+use rules::Block;
+use rules::Judgement;
+
+// A block number as a place.
+fn place(b: usize) -> u32
+    requires { ⌜ b ≤ 128 ⌝ }
+    ensures { λ r. ⌜ r ≡ b ⌝ }
+{
+    b as u32
+}
+
+// Codes 14 and 15, on the label of each block's process block.
+fn judge_calls(blocks: [Block; 128], n: usize, homes: &[u8; 128]) -> Judgement
+    requires { ⌜ (n ≤ 128) × (take n (now homes) ≡ map (home (take n blocks)) (upFrom 0 n)) ⌝ }
+    ensures { λ r. ⌜ r ≡ judgedCalls (take n blocks) ⌝ }
+{
+    let table = labels::calls::call_table(blocks, n);
+    let counts = table.counts;
+    let names = table.names;
+    let circle = calls::fourteen(homes, &counts, &names, n);
+    if circle < n {
+        return Judgement::Refused(14, place(circle));
+    }
+    let peak = calls::main_peak(homes, &counts, &names, n);
+    if 64 < peak {
+        return Judgement::Refused(15, 0);
+    }
+    Judgement::Accepted(place(n), peak)
+}
+
+// Codes 12 and 13, and those after them.
+fn judge_names(blocks: [Block; 128], n: usize, homes: &[u8; 128]) -> Judgement
+    requires { ⌜ (n ≤ 128) × (take n (now homes) ≡ map (home (take n blocks)) (upFrom 0 n)) ⌝ }
+    ensures { λ r. ⌜ r ≡ judgedNames (take n blocks) ⌝ }
+{
+    let unknown = labels::calls::twelve(blocks, n);
+    if unknown < n {
+        return Judgement::Refused(12, place(unknown));
+    }
+    if labels::calls::thirteen(blocks, n) {
+        return Judgement::Refused(13, 0);
+    }
+    judge_calls(blocks, n, homes)
+}
+
+// Codes 9 to 15 on decoded blocks, one code at a time.
+pub fn judge_blocks(blocks: [Block; 128], n: usize) -> Judgement
+    requires { ⌜ n ≤ 128 ⌝ }
+    ensures { λ r. ⌜ r ≡ judgedBlocks (take n blocks) ⌝ }
+{
+    let semaphore = labels::semaphores::nine(blocks, n);
+    if semaphore < n {
+        return Judgement::Refused(9, place(semaphore));
+    }
+    let label = labels::counts::ten(blocks, n);
+    if label < n {
+        return Judgement::Refused(10, place(label));
+    }
+    let processes = labels::processes::process_blocks(blocks, n);
+    let bad = processes.bad;
+    if bad < n {
+        return Judgement::Refused(11, place(bad));
+    }
+    let homes = processes.homes;
+    judge_names(blocks, n, &homes)
+}
+
+// Any bytes get exactly the answer of document 01.
+pub fn judge(image: &[u8]) -> Judgement
+    ensures { λ r. ⌜ r ≡ judgement (now (image .entry)) ⌝ }
+{
+    let d = decode::decode(image);
+    let code = d.code;
+    if code != 0 {
+        return Judgement::Refused(code, d.place);
+    }
+    let blocks = d.blocks;
+    let n = d.count;
+    judge_blocks(blocks, n)
+}

@@ -1,0 +1,19 @@
+use Rattle.rules.specs.Base.{pick}
+use borrow.Author.Tests.{ne-eqb, eq-eqb}
+use Rattle.labels.proofs.groups.new_name.Statement.{statement}
+use Rattle.labels.proofs.groups.new_name.Tie as tie
+use Rattle.labels.proofs.groups.new_name.Reads as reads
+use Rattle.labels.proofs.groups.new_name.Lts as lts
+
+-- src/groups.rt:29:1
+returns : tie.Need-returns
+unfolding pick
+returns c = simp (eq-eqb _ _ (c .if1 .taken))
+
+-- src/groups.rt:29:1
+returns-2 : tie.Need-returns-2
+unfolding pick
+returns-2 c = simp (ne-eqb _ _ (c .if1 .left))
+
+pub new-name-spec : {M : Type 1} → statement M
+new-name-spec = tie.close (tie.spec returns returns-2)

@@ -1,0 +1,19 @@
+use Rattle.rules.specs.Names.{blockNames}
+use borrow.Author.Tests.{ne-eqb, eq-eqb}
+use Rattle.labels.proofs.semaphores.cell_names.Statement.{statement}
+use Rattle.labels.proofs.semaphores.cell_names.Tie as tie
+use Rattle.labels.proofs.semaphores.cell_names.Reads as reads
+use Rattle.labels.proofs.semaphores.cell_names.Lts as lts
+
+-- src/semaphores.rt:35:9
+returns : tie.Need-returns
+unfolding blockNames
+returns c = simp (eq-eqb _ _ (c .if1 .taken))
+
+-- src/semaphores.rt:31:1
+returns-2 : tie.Need-returns-2
+unfolding blockNames
+returns-2 c = simp (ne-eqb _ _ (c .if1 .left))
+
+pub cell-names-spec : {M : Type 1} → statement M
+cell-names-spec = tie.close (tie.spec returns returns-2)

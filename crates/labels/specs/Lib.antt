@@ -1,0 +1,6 @@
+-- Definitions that the contracts of this crate cite.
+pub mod Few
+pub mod Marks
+pub mod Counts
+pub mod Calls
+pub mod Own

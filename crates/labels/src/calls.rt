@@ -1,0 +1,108 @@
+// Codes 12 and 13, and the table of calls that codes 14 and 15 want.
+use crate::counts::counts_of;
+use crate::short;
+use crate::short::Few;
+use rules::Block;
+ghost use mathlib.Core.Path.{_≡_};
+ghost use Prim.Native.Nat.{ℕ, _+_, _≤_};
+ghost use lib.ListN.{length, take, getD};
+ghost use lib.Dec.{eqb};
+ghost use lib.Seq.{paste};
+ghost use Rattle.rules.specs.Base.{lowest, some-of};
+ghost use Rattle.rules.specs.Labels.{blockOf, bad12};
+ghost use Rattle.rules.specs.Calls.{bad13};
+ghost use Rattle.labels.specs.Few.{few};
+ghost use Rattle.labels.specs.Calls.{CallsOf};
+
+// How many labels each block calls, and eight places for them a block.
+pub struct CallTable {
+    pub counts: [u8; 128],
+    pub names: [u8; 1024],
+}
+
+// The labels stored from a place on.
+fn store(names: &mut [u8; 1024], at: usize, labels: [u8; 8])
+    requires { ⌜ (length (now names) ≡ 1024) × (at + 8 ≤ 1024) ⌝ }
+    ensures { λ r. ⌜ now (names .exit) ≡ paste (now (names .entry)) at labels 8 ⌝ }
+{
+    let mut k: usize = 0;
+    while k < 8 {
+        names[at + k] = labels[k];
+        k += 1;
+    }
+}
+
+// A number of at most eight as a byte.
+fn byte(count: usize) -> u8
+    requires { ⌜ count ≤ 8 ⌝ }
+    ensures { λ r. ⌜ r ≡ count ⌝ }
+{
+    count as u8
+}
+
+pub fn call_table(blocks: [Block; 128], n: usize) -> CallTable
+    requires { ⌜ n ≤ 128 ⌝ }
+    ensures { λ r. ⌜ CallsOf (take n blocks) n r ⌝ }
+{
+    let mut counts = [0u8; 128];
+    let mut names = [0u8; 1024];
+    let mut i: usize = 0;
+    while i < n {
+        let b = blocks[i];
+        let instruction = b.instruction;
+        let f = short::of_call(instruction);
+        let count = byte(f.count);
+        let labels = f.labels;
+        counts[i] = count;
+        store(&mut names, 8 * i, labels);
+        i += 1;
+    }
+    CallTable { counts, names }
+}
+
+// One of the labels has no begin.
+fn is_bad(begins: &[u16; 256], f: Few) -> bool
+    requires { ⌜ f .count ≤ 8 ⌝ }
+    ensures { λ r. ⌜ r ≡ some-of (λ l. eqb (getD (now (begins .entry)) l 0) 0) (few f) ⌝ }
+{
+    let labels = f.labels;
+    let count = f.count;
+    let mut k: usize = 0;
+    while k < count {
+        let l = laws::index(labels[k]);
+        if begins[l] == 0 {
+            return true;
+        }
+        k += 1;
+    }
+    false
+}
+
+// The lowest block that is refused, or the number of blocks.
+pub fn twelve(blocks: [Block; 128], n: usize) -> usize
+    requires { ⌜ n ≤ 128 ⌝ }
+    ensures { λ r. ⌜ r ≡ lowest (λ b. bad12 (take n blocks) (blockOf (take n blocks) b)) n ⌝ }
+{
+    let counts = counts_of(blocks, n);
+    let begins = counts.begins;
+    let mut i: usize = 0;
+    while i < n {
+        let b = blocks[i];
+        let instruction = b.instruction;
+        if is_bad(&begins, short::of_call(instruction)) {
+            return i;
+        }
+        i += 1;
+    }
+    i
+}
+
+// There is no `begin 0`.
+pub fn thirteen(blocks: [Block; 128], n: usize) -> bool
+    requires { ⌜ n ≤ 128 ⌝ }
+    ensures { λ r. ⌜ r ≡ bad13 (take n blocks) ⌝ }
+{
+    let counts = counts_of(blocks, n);
+    let begins = counts.begins;
+    begins[0] == 0
+}
