@@ -23,7 +23,7 @@ fn judge_calls(blocks: [Block; 128], n: usize, homes: &[u8; 128]) -> Judgement
     requires { ⌜ (n ≤ 128) × (take n (now homes) ≡ map (home (take n blocks)) (upFrom 0 n)) ⌝ }
     ensures { λ r. ⌜ r ≡ judgedCalls (take n blocks) ⌝ }
 {
-    let table = labels::calls::call_table(blocks, n);
+    let table = labels::call_table(blocks, n);
     let counts = table.counts;
     let names = table.names;
     let circle = calls::fourteen(homes, &counts, &names, n);
@@ -42,11 +42,11 @@ fn judge_names(blocks: [Block; 128], n: usize, homes: &[u8; 128]) -> Judgement
     requires { ⌜ (n ≤ 128) × (take n (now homes) ≡ map (home (take n blocks)) (upFrom 0 n)) ⌝ }
     ensures { λ r. ⌜ r ≡ judgedNames (take n blocks) ⌝ }
 {
-    let unknown = labels::calls::twelve(blocks, n);
+    let unknown = labels::twelve(blocks, n);
     if unknown < n {
         return Judgement::Refused(12, place(unknown));
     }
-    if labels::calls::thirteen(blocks, n) {
+    if labels::thirteen(blocks, n) {
         return Judgement::Refused(13, 0);
     }
     judge_calls(blocks, n, homes)
@@ -57,15 +57,15 @@ pub fn judge_blocks(blocks: [Block; 128], n: usize) -> Judgement
     requires { ⌜ n ≤ 128 ⌝ }
     ensures { λ r. ⌜ r ≡ judgedBlocks (take n blocks) ⌝ }
 {
-    let semaphore = labels::semaphores::nine(blocks, n);
+    let semaphore = labels::nine(blocks, n);
     if semaphore < n {
         return Judgement::Refused(9, place(semaphore));
     }
-    let label = labels::counts::ten(blocks, n);
+    let label = labels::ten(blocks, n);
     if label < n {
         return Judgement::Refused(10, place(label));
     }
-    let processes = labels::processes::process_blocks(blocks, n);
+    let processes = labels::process_blocks(blocks, n);
     let bad = processes.bad;
     if bad < n {
         return Judgement::Refused(11, place(bad));

@@ -1,7 +1,6 @@
 -- What tables of counts hold, label by label and block by block, and that code 10 is read off them. Assumes nothing.
-use Prim.Native.Nat.{ℕ, zero, suc, _+_, _*_, _<_, _≤_}
+use Prim.Native.Nat.{ℕ, _+_, _*_, _<_, _≤_}
 use native.Mathlib.Nat.{add-zero, zero-add, add-assoc}
-use native.Mathlib.Numerals.{add-one}
 use native.Mathlib.Omega.{arith}
 use mathlib.Core.Path.{_≡_, refl, sym, ap, subst, fun-ext, _∙_}
 use mathlib.Core.Bool.{Bool, true, false, not, _&&_, and-false}
@@ -11,13 +10,14 @@ use lib.Seq.{getD-set-same, getD-set-other}
 use lib.Dec.{eqb}
 use borrow.Author.Tests.{eqb-true, eqb-false}
 use Rattle.rules.specs.Base.{pick, times, each-of}
-use Rattle.rules.specs.Labels.{entryLabels, exitLabels, beginLabels, endLabels, count, ordinary, outer, bad10}
+use Rattle.rules.specs.Labels.{entryLabels, exitLabels, beginLabels, endLabels, ordinaryLabels, count, ordinary, outer, bad10}
 use Rattle.rules.specs.declared.Block.{Block}
+use Rattle.laws.proofs.Lists.{each-append}
 use Rattle.labels.specs.declared.short.Few.{Few}
 use Rattle.labels.specs.declared.counts.Counts.{Counts}
 use Rattle.labels.specs.Few.{few, Lists}
-use Rattle.labels.specs.Counts.{Low, Raised, Counted, CountsOf, once, onceAt, badBy}
-use Rattle.labels.proofs.Programs.{blank, pick-le, getD-same, take-more, each-of-append}
+use Rattle.labels.specs.Counts.{most, Low, Raised, Counted, CountsOf, onceAt, badBy}
+use Rattle.labels.proofs.Programs.{blank, pick-le, getD-same, take-more}
 
 -- ---- how often a label stands in a list
 pub times-append : (x : ℕ) (l m : List ℕ) → times x (l ++ m) ≡ times x l + times x m
@@ -57,9 +57,9 @@ raised-more a l b k y h q s r =
       size = length-set b y (getD b y 0 + 1) ∙ r .size;
       each =
           λ x.
-            raised-at b y x (omega arith) ∙ ap (λ (m : ℕ). m + pick (eqb y x) 1 0) (r .each x)
-            ∙ add-assoc (getD a x 0) (times x (take k l)) (pick (eqb y x) 1 0)
-            ∙ ap (λ (m : ℕ). getD a x 0 + m) (rw q (sym (times-more x l k h)));
+          raised-at b y x (omega arith) ∙ ap (λ (m : ℕ). m + pick (eqb y x) 1 0) (r .each x)
+          ∙ add-assoc (getD a x 0) (times x (take k l)) (pick (eqb y x) 1 0)
+          ∙ ap (λ (m : ℕ). getD a x 0 + m) (rw q (sym (times-more x l k h)));
     }
 
 pub raised-low : (a l b : List ℕ) (m j : ℕ) → Low m a → Raised a l b → length l ≤ j → Low (m + j) b
@@ -99,14 +99,14 @@ module _ (stands : Block → List ℕ) (blocks : List Block) where
               size = r .size ∙ c .counted .size;
               each =
                   λ x.
-                    r .each x ∙ ap (λ (m : ℕ). m + times x (few f)) (c .counted .each x)
-                    ∙ ap (λ (m : List ℕ). count stands (take i blocks) x + times x m) (l .same)
-                    ∙ sym (count-more i x h);
+                  r .each x ∙ ap (λ (m : ℕ). m + times x (few f)) (c .counted .each x)
+                  ∙ ap (λ (m : List ℕ). count stands (take i blocks) x + times x m) (l .same)
+                  ∙ sym (count-more i x h);
             };
         low = λ x. omega (arith, raised-low a (few f) b (8 * i) 8 (c .low) r (few-le f (l .small)) x);
       }
 
-  pub counting-room : (i : ℕ) (a : List ℕ) → Counting stands blocks i a → i ≤ 128 → Low 1024 a
+  pub counting-room : (i : ℕ) (a : List ℕ) → Counting stands blocks i a → i ≤ 128 → Low most a
   counting-room i a c h x = omega (arith, c .low x)
 
   pub counting-all : (i n : ℕ) (a : List ℕ) → i ≡ n → Counting stands blocks i a → Counted stands (take n blocks) a
@@ -116,8 +116,8 @@ module _ (stands : Block → List ℕ) (blocks : List Block) where
 pub once-at : (a b c d : List ℕ) (l x : ℕ) (r : Bool) → l ≡ x → r ≡ onceAt a b c d l → r ≡ onceAt a b c d x
 once-at a b c d l x r h e = e ∙ ap (onceAt a b c d) h
 
-pub all-of : (p : ℕ → Bool) (f : Few) (l : List ℕ) (r : Bool) → Lists f l → r ≡ each-of p (few f) → each-of p l ≡ r
-all-of p f l r h e = ap (each-of p) (sym (h .same)) ∙ sym e
+pub all-of : (p : ℕ → Bool) (f : Few) (l : List ℕ) (r v : Bool) → Lists f l → r ≡ each-of p (few f) → r ≡ v → each-of p l ≡ v
+all-of p f l r v h e q = ap (each-of p) (sym (h .same)) ∙ sym e ∙ q
 
 module _ (entries exits begins ends : List ℕ) (b : Block) where
   -- the four parts of a block
@@ -127,8 +127,10 @@ module _ (entries exits begins ends : List ℕ) (b : Block) where
       && (each-of (onceAt begins ends entries exits) (beginLabels (b .entry)) && each-of (onceAt begins ends entries exits) (endLabels (b .exit))))
   unfolding badBy
   parted =
-      rw (each-of-append (onceAt entries exits begins ends) (entryLabels (b .entry)) (exitLabels (b .exit)),
-        each-of-append (onceAt begins ends entries exits) (beginLabels (b .entry)) (endLabels (b .exit)))
+      rw (
+        each-append (onceAt entries exits begins ends) (entryLabels (b .entry)) (exitLabels (b .exit)),
+        each-append (onceAt begins ends entries exits) (beginLabels (b .entry)) (endLabels (b .exit)),
+      )
 
   pub bad-entry : each-of (onceAt entries exits begins ends) (entryLabels (b .entry)) ≡ false → true ≡ badBy entries exits begins ends b
   bad-entry e = rw (parted, e)
@@ -144,14 +146,22 @@ module _ (entries exits begins ends : List ℕ) (b : Block) where
       → each-of (onceAt begins ends entries exits) (endLabels (b .exit)) ≡ r → not r ≡ badBy entries exits begins ends b
   bad-end r e f g h = rw (parted, e, f, g, h)
 
-pub bad10-is : (program : List Block) (c : Counts) (b : Block) → CountsOf program c → badBy (c .entries) (c .exits) (c .begins) (c .ends) b ≡ bad10 program b
+read-off : (program : List Block) (c : Counts) (b : Block) → CountsOf program c → badBy (c .entries) (c .exits) (c .begins) (c .ends) b ≡ bad10 program b
 unfolding badBy bad10 ordinary outer
-bad10-is program c b h =
-    ap (λ (p : ℕ → Bool). not (each-of p (entryLabels (b .entry) ++ exitLabels (b .exit)) && each-of (onceAt (c .begins) (c .ends) (c .entries) (c .exits)) (beginLabels (b .entry) ++ endLabels (b .exit)))) (fun-ext inner)
-    ∙ ap (λ (p : ℕ → Bool). not (each-of (ordinary program) (entryLabels (b .entry) ++ exitLabels (b .exit)) && each-of p (beginLabels (b .entry) ++ endLabels (b .exit)))) (fun-ext around)
+read-off program c b h =
+    ap (λ (p : ℕ → Bool). not (each-of p (ordinaryLabels b) && each-of (onceAt (c .begins) (c .ends) (c .entries) (c .exits)) outerLabels))
+    (fun-ext inner)
+    ∙ ap (λ (p : ℕ → Bool). not (each-of (ordinary program) (ordinaryLabels b) && each-of p outerLabels)) (fun-ext around)
   where
+    outerLabels : List ℕ
+    outerLabels = beginLabels (b .entry) ++ endLabels (b .exit)
+
     inner : (l : ℕ) → onceAt (c .entries) (c .exits) (c .begins) (c .ends) l ≡ ordinary program l
     inner l = rw (h .entries .each l, h .exits .each l, h .begins .each l, h .ends .each l)
 
     around : (l : ℕ) → onceAt (c .begins) (c .ends) (c .entries) (c .exits) l ≡ outer program l
     around l = rw (h .begins .each l, h .ends .each l, h .entries .each l, h .exits .each l)
+
+pub bad10-is : (program : List Block) (c : Counts) (b : Block) (r v : Bool) → CountsOf program c → r ≡ badBy (c .entries) (c .exits) (c .begins) (c .ends) b
+    → r ≡ v → bad10 program b ≡ v
+bad10-is program c b r v h e q = sym (read-off program c b h) ∙ sym e ∙ q

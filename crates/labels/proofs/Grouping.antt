@@ -1,21 +1,17 @@
 -- The groups of nodes, label by label and block by block. Assumes nothing.
 use Prim.Native.Nat.{ℕ, zero, suc, _+_, _<_, _≤_}
-use native.Mathlib.Nat.{add-zero, zero-add, add-suc, suc-add, add-assoc, not-suc-le-zero, le-of-suc-le-suc}
-use native.Mathlib.Numerals.{add-one}
+use native.Mathlib.Nat.{add-zero, zero-add, add-suc, suc-add, not-suc-le-zero, le-of-suc-le-suc}
 use native.Mathlib.Omega.{arith}
 use mathlib.Core.Path.{_≡_, refl, sym, ap, subst, _∙_}
-use mathlib.Core.Bool.{Bool, true, false}
-use mathlib.Core.Logic.{⊎-elim}
 use mathlib.Core.List.{List, [], _∷_, _++_, map}
-use lib.ListN.{length, take, getD, set, length-set, length-map, List·getD-eq-default}
+use lib.ListN.{length, take, getD, set, length-set, length-map}
 use lib.Seq.{getD-set-same, getD-set-other, ext-getD, length-take-le}
-use lib.Dec.{eqb}
 use borrow.Author.Count.{below-none, below-more}
-use Rattle.rules.specs.Base.{pick, upFrom}
-use Rattle.rules.specs.Format.{mostBlocks, labels}
+use Rattle.rules.specs.Base.{upFrom}
+use Rattle.rules.specs.Format.{labels}
 use Rattle.rules.specs.Labels.{labelNode, ordinaryLabels, entryLabels, exitLabels, renamed, joinNodes, joinLabels, groupsFrom, groups}
 use Rattle.rules.specs.declared.Block.{Block}
-use Rattle.laws.proofs.Search.{lt-or-le}
+use Rattle.labels.specs.Nodes.{allNodes}
 use Rattle.labels.specs.declared.short.Few.{Few}
 use Rattle.labels.specs.Few.{few, Lists}
 use Rattle.labels.proofs.Programs.{blank, take-more}
@@ -101,16 +97,16 @@ groupsFrom-append g b (x ∷ p) q =
 module _ (blocks : List Block) where
   -- after the first i blocks
   abbrev pub groupsOf : ℕ → List ℕ
-  groupsOf i = groupsFrom (upFrom 0 384) 0 (take i blocks)
+  groupsOf i = groupsFrom (upFrom 0 allNodes) 0 (take i blocks)
 
-  pub length-groupsOf : (i : ℕ) → length (groupsOf i) ≡ 384
-  length-groupsOf i = length-groupsFrom (upFrom 0 384) 0 (take i blocks) ∙ length-upFrom 0 384
+  pub length-groupsOf : (i : ℕ) → length (groupsOf i) ≡ allNodes
+  length-groupsOf i = length-groupsFrom (upFrom 0 allNodes) 0 (take i blocks) ∙ length-upFrom 0 allNodes
 
   pub groupsOf-more : (i : ℕ) → i < length blocks → groupsOf (i + 1) ≡ joinLabels (groupsOf i) i (ordinaryLabels (getD blocks i blank))
   unfolding groupsFrom
   groupsOf-more i h =
       rw (take-more blocks i blank h)
-      (groupsFrom-append (upFrom 0 384) 0 (take i blocks) (getD blocks i blank ∷ [])
+      (groupsFrom-append (upFrom 0 allNodes) 0 (take i blocks) (getD blocks i blank ∷ [])
       ∙ ap (λ (k : ℕ). joinLabels (groupsOf i) k (ordinaryLabels (getD blocks i blank))) (zero-add (length (take i blocks)) ∙ length-take-le i blocks (omega arith)))
 
   -- one block more: its entry's labels, then its exit's

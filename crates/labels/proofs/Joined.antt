@@ -6,23 +6,43 @@ use native.Mathlib.Omega.{arith}
 use mathlib.Core.Path.{_≡_, refl, sym, ap, subst, _∙_}
 use mathlib.Core.Bool.{Bool, true, false}
 use mathlib.Core.Logic.{_⊎_, inl, inr, ⊎-elim, _↔_}
-use mathlib.Core.List.{List, [], _∷_, map, List·Memᴰ, List·Memᴰ·head, List·Memᴰ·tail, List·Memᴰ·not-nil, List·Memᴰ·cases-cons}
+use mathlib.Core.List.{List, [], _∷_, List·Memᴰ, List·Memᴰ·head, List·Memᴰ·tail, List·Memᴰ·not-nil, List·Memᴰ·cases-cons, List·Memᴰ·eq-of-singleton, List·Memᴰ·append-cases}
 use lib.ListN.{length, getD}
 use lib.Dec.{eqb}
 use borrow.Author.Tests.{eq-eqb, eqb-true}
 use Rattle.rules.specs.Base.{pick, upFrom}
 use Rattle.rules.specs.Format.{mostBlocks, labels}
-use Rattle.rules.specs.Labels.{blockOf, labelNode, ordinaryLabels, Joined, same, holds, back, chain, renamed, joinNodes, joinLabels, groupsFrom, groups}
+use Rattle.rules.specs.Labels.{blockOf, labelNode, entryLabels, exitLabels, ordinaryLabels, Joined, same, holds, back, chain, renamed, joinNodes, joinLabels, groupsFrom, groups}
 use Rattle.rules.specs.declared.Block.{Block}
+use Rattle.rules.specs.declared.Entry.{Entry}
+use Rattle.rules.specs.declared.Exit.{Exit}
+use Rattle.laws.specs.Fit.{EntryFit, ExitFit, BlockFit}
+use Rattle.labels.specs.Nodes.{allNodes}
 use Rattle.labels.proofs.Grouping.{getD-map, length-upFrom, getD-upFrom, length-join, length-joins}
-
--- the nodes are the blocks and the labels
-abbrev pub nodes : ℕ
-nodes = mostBlocks + labels
 
 -- each ordinary label is one of the 256
 abbrev pub Labelled : List Block → Type 0
 Labelled program = (b l : ℕ) → b < length program → List·Memᴰ l (ordinaryLabels (blockOf program b)) → l < labels
+
+-- as decoding makes them
+entry-labels : (e : Entry) → EntryFit e → (l : ℕ) → List·Memᴰ l (entryLabels e) → l < labels
+entry-labels (Entry.From k) h l m = subst (λ (x : ℕ). x < labels) (sym (List·Memᴰ·eq-of-singleton m)) h
+entry-labels (Entry.Either k n e) h l m =
+    ⊎-elim (λ q. subst (λ (x : ℕ). x < labels) (sym q) (h .0)) (λ t. subst (λ (x : ℕ). x < labels) (sym (List·Memᴰ·eq-of-singleton t)) (h .1))
+    (List·Memᴰ·cases-cons m)
+entry-labels (Entry.Begin k) h l m = absurd (List·Memᴰ·not-nil m)
+
+exit-labels : (e : Exit) → ExitFit e → (l : ℕ) → List·Memᴰ l (exitLabels e) → l < labels
+exit-labels (Exit.To k) h l m = subst (λ (x : ℕ). x < labels) (sym (List·Memᴰ·eq-of-singleton m)) h
+exit-labels (Exit.Either e k n) h l m =
+    ⊎-elim (λ q. subst (λ (x : ℕ). x < labels) (sym q) (h .0)) (λ t. subst (λ (x : ℕ). x < labels) (sym (List·Memᴰ·eq-of-singleton t)) (h .1))
+    (List·Memᴰ·cases-cons m)
+exit-labels (Exit.End k) h l m = absurd (List·Memᴰ·not-nil m)
+
+pub labelled-fit : (program : List Block) → ((b : ℕ) → b < length program → BlockFit (blockOf program b)) → Labelled program
+labelled-fit program fit b l h m =
+    ⊎-elim (entry-labels (blockOf program b .entry) (fit b h .entry) l) (exit-labels (blockOf program b .exit) (fit b h .exit) l)
+    (List·Memᴰ·append-cases (entryLabels (blockOf program b .entry)) m)
 
 -- ---- renaming one group
 number : (g : List ℕ) (a b x : ℕ) → x < length g → getD (joinNodes g a b) x 0 ≡ renamed (getD g b 0) (getD g a 0) (getD g x 0)
@@ -91,7 +111,7 @@ met-among g b l (k ∷ ls) hb hl m =
     (λ t. met-among (joinNodes g b (labelNode k)) b l ls (omega arith) (omega arith) t)
     (List·Memᴰ·cases-cons m)
 
-met-from : (g : List ℕ) (i : ℕ) (p : List Block) (k l : ℕ) → length g ≡ nodes → i + length p ≤ mostBlocks → k < length p → l < labels
+met-from : (g : List ℕ) (i : ℕ) (p : List Block) (k l : ℕ) → length g ≡ allNodes → i + length p ≤ mostBlocks → k < length p → l < labels
     → List·Memᴰ l (ordinaryLabels (blockOf p k)) → getD (groupsFrom g i p) (i + k) 0 ≡ getD (groupsFrom g i p) (labelNode l) 0
 unfolding groupsFrom
 met-from g i [] k l s h hk hl m = absurd (not-suc-le-zero hk)
@@ -109,22 +129,22 @@ module _ (program : List Block) (few : length program ≤ mostBlocks) (labelled 
   unfolding groups
   one-number (same a) = refl
   one-number (holds b l h m) =
-      rw (← zero-add b) (met-from (upFrom 0 nodes) 0 program b l (length-upFrom 0 nodes) (omega arith) h (labelled b l h m) m)
+      rw (← zero-add b) (met-from (upFrom 0 allNodes) 0 program b l (length-upFrom 0 allNodes) (omega arith) h (labelled b l h m) m)
   one-number (back j) = sym (one-number j)
   one-number (chain j k) = one-number j ∙ one-number k
 
   -- ---- what has one number is joined
   abbrev Good : List ℕ → Type 0
-  Good g = (a b : ℕ) → a < nodes → b < nodes → getD g a 0 ≡ getD g b 0 → Joined program a b
+  Good g = (a b : ℕ) → a < allNodes → b < allNodes → getD g a 0 ≡ getD g b 0 → Joined program a b
 
-  good-join : (g : List ℕ) (p q : ℕ) → length g ≡ nodes → p < nodes → q < nodes → Joined program p q → Good g → Good (joinNodes g p q)
+  good-join : (g : List ℕ) (p q : ℕ) → length g ≡ allNodes → p < allNodes → q < allNodes → Joined program p q → Good g → Good (joinNodes g p q)
   good-join g p q s hp hq j good a b ha hb e =
       ⊎-elim (λ h. good a b ha hb h)
       (⊎-elim (λ h. chain (good a q ha hq (h .0)) (chain (back j) (good p b hp hb (h .1))))
       (λ h. chain (good a p ha hp (h .0)) (chain j (good q b hq hb (sym (h .1))))))
       (split (getD g q 0) (getD g p 0) (getD g a 0) (getD g b 0) (sym (number g p q a (omega arith)) ∙ e ∙ number g p q b (omega arith)))
 
-  good-joins : (g : List ℕ) (b : ℕ) (ls : List ℕ) → length g ≡ nodes → b < nodes → ((l : ℕ) → List·Memᴰ l ls → (l < labels) × Joined program b (labelNode l))
+  good-joins : (g : List ℕ) (b : ℕ) (ls : List ℕ) → length g ≡ allNodes → b < allNodes → ((l : ℕ) → List·Memᴰ l ls → (l < labels) × Joined program b (labelNode l))
       → Good g → Good (joinLabels g b ls)
   unfolding joinLabels
   good-joins g b [] s hb all good = good
@@ -133,7 +153,7 @@ module _ (program : List Block) (few : length program ≤ mostBlocks) (labelled 
       good-joins (joinNodes g b (labelNode l)) b ls (length-join g b (labelNode l) ∙ s) hb (λ k m. all k (List·Memᴰ·tail m))
       (good-join g b (labelNode l) s hb (omega arith) (all l (List·Memᴰ·head refl) .1) good)
 
-  good-from : (g : List ℕ) (i : ℕ) (p : List Block) → length g ≡ nodes → i + length p ≤ mostBlocks
+  good-from : (g : List ℕ) (i : ℕ) (p : List Block) → length g ≡ allNodes → i + length p ≤ mostBlocks
       → ((k l : ℕ) → k < length p → List·Memᴰ l (ordinaryLabels (blockOf p k)) → (l < labels) × Joined program (i + k) (labelNode l))
       → Good g → Good (groupsFrom g i p)
   unfolding groupsFrom
@@ -144,13 +164,14 @@ module _ (program : List Block) (few : length program ≤ mostBlocks) (labelled 
       (good-joins g i (ordinaryLabels b) s (omega arith)
       (λ l m. let r = all 0 l (omega arith) m in (r .0, subst (λ (x : ℕ). Joined program x (labelNode l)) (add-zero i) (r .1))) good)
 
-  pub are-joined : (a b : ℕ) → a < nodes → b < nodes → getD (groups program) a 0 ≡ getD (groups program) b 0 → Joined program a b
+  pub are-joined : (a b : ℕ) → a < allNodes → b < allNodes → getD (groups program) a 0 ≡ getD (groups program) b 0 → Joined program a b
   unfolding groups
   are-joined =
-      good-from (upFrom 0 nodes) 0 program (length-upFrom 0 nodes) (omega arith)
+      good-from (upFrom 0 allNodes) 0 program (length-upFrom 0 allNodes) (omega arith)
       (λ k l h m. (labelled k l h m, subst (λ (x : ℕ). Joined program x (labelNode l)) (sym (zero-add k)) (holds k l h m)))
       (λ a b ha hb e.
-        subst (Joined program a) (sym (getD-upFrom 0 nodes a ha ∙ zero-add a) ∙ e ∙ getD-upFrom 0 nodes b hb ∙ zero-add b) (same a))
+      subst (Joined program a) (sym (getD-upFrom 0 allNodes a ha ∙ zero-add a) ∙ e ∙ getD-upFrom 0 allNodes b hb ∙ zero-add b) (same a))
 
-  pub joined : (a b : ℕ) → a < nodes → b < nodes → (getD (groups program) a 0 ≡ getD (groups program) b 0) ↔ Joined program a b
+  -- the words of document 01, "blocks joined by ordinary labels, over any chain", and what is computed, are one
+  pub joined : (a b : ℕ) → a < allNodes → b < allNodes → (getD (groups program) a 0 ≡ getD (groups program) b 0) ↔ Joined program a b
   joined a b ha hb = (are-joined a b ha hb, one-number)

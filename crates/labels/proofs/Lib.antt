@@ -1,7 +1,7 @@
--- Laws of rules' definitions that this crate's proofs cite, and the theorem `joined`.
+-- Laws of rules' definitions that this crate's proofs cite, in the order in which they stand on each other, and the theorem `joined`.
 pub mod Programs
-pub mod Marking
 pub mod Searching
+pub mod Marking
 pub mod Counting
 pub mod Tabling
 pub mod Grouping

@@ -1,6 +1,5 @@
 -- What tables of marks hold, mark by mark and block by block. Assumes nothing.
-use Prim.Native.Nat.{ℕ, _+_, _<_, _≤_}
-use native.Mathlib.Omega.{arith}
+use Prim.Native.Nat.{ℕ, _+_, _<_}
 use mathlib.Core.Path.{_≡_, refl, sym, ap, fun-ext, _∙_}
 use mathlib.Core.Bool.{Bool, true, false, _&&_, _||_, or-false, or-true}
 use mathlib.Core.List.{List}
@@ -42,7 +41,7 @@ semaphore-more blocks i t u h e m x =
     m .each x ∙ ap (λ (b : Bool). b || semaphoreNames (getD blocks i blank .instruction) x) (e x)
     ∙ sym (some-of-more (λ (b : Block). semaphoreNames (b .instruction) x) blocks i blank h)
 
-pub bad9-is : (program : List Block) (t : List Bool) (b : Block) → ((x : ℕ) → getD t x false ≡ semaphore program x)
-    → someBelow (λ x. getD t x false && blockNames b x) variables ≡ bad9 program b
+pub bad9-is : (program : List Block) (t : List Bool) (b : Block) (r v : Bool) → ((x : ℕ) → getD t x false ≡ semaphore program x)
+    → r ≡ someBelow (λ x. getD t x false && blockNames b x) variables → r ≡ v → bad9 program b ≡ v
 unfolding bad9
-bad9-is program t b e = ap (λ (p : ℕ → Bool). someBelow (λ x. p x && blockNames b x) variables) (fun-ext e)
+bad9-is program t b r v h e q = sym (ap (λ (p : ℕ → Bool). someBelow (λ x. p x && blockNames b x) variables) (fun-ext h)) ∙ sym e ∙ q

@@ -1,6 +1,6 @@
 -- The begins and the ends of groups, block by block; code 11 and the labels of process blocks from them. Assumes nothing.
 use Prim.Native.Nat.{ℕ, zero, suc, _+_, _*_, _<_, _≤_}
-use native.Mathlib.Nat.{add-zero, zero-add, add-suc, suc-add, not-suc-le-zero, le-of-suc-le-suc}
+use native.Mathlib.Nat.{add-zero, zero-add, add-suc, suc-add}
 use native.Mathlib.Numerals.{add-one}
 use native.Mathlib.Omega.{arith}
 use mathlib.Core.Path.{_≡_, refl, sym, ap, subst, fun-ext, _∙_}
@@ -10,15 +10,16 @@ use mathlib.Core.List.{List, [], _∷_, _++_, map, map-append, append-assoc, app
 use lib.ListN.{length, take, getD, set, length-set, length-append, length-map, replicate, List·getD-eq-default}
 use lib.Seq.{length-take-le, take-suc-set}
 use lib.Dec.{eqb}
-use borrow.Author.Tests.{eq-eqb, ne-eqb, eqb-true}
+use borrow.Author.Tests.{ne-eqb, eqb-true}
 use Rattle.rules.specs.Base.{pick, lowest, upFrom}
-use Rattle.rules.specs.Labels.{labelNode, ordinaryLabels, beginLabels, endLabels, renamed, joinNodes, joinLabels, groupsFrom, groups, within, ownBegins, ownEnds, oneLabel, bad11, home}
+use Rattle.rules.specs.Labels.{labelNode, ordinaryLabels, renamed, joinNodes, joinLabels, groupsFrom, groups, within, ownBegins, ownEnds, oneLabel, bad11, home}
 use Rattle.rules.specs.declared.Block.{Block}
 use Rattle.laws.proofs.Search.{lt-or-le}
+use Rattle.labels.specs.Nodes.{allNodes}
 use Rattle.labels.specs.declared.short.Few.{Few}
 use Rattle.labels.specs.declared.processes.Own.{Own}
 use Rattle.labels.specs.Few.{few, Lists}
-use Rattle.labels.specs.Counts.{Low}
+use Rattle.labels.specs.Counts.{most, Low}
 use Rattle.labels.specs.Own.{Below, notedCounts, notedFirsts, Tallied, OwnOf, oneAt}
 use Rattle.labels.proofs.Programs.{blank, pick-le, getD-same, getD-set, take-more}
 use Rattle.labels.proofs.Grouping.{getD-map, length-upFrom, getD-upFrom}
@@ -48,16 +49,16 @@ unfolding groupsFrom
 below-from g b m [] p h = h
 below-from g b m (x ∷ q) p h = below-from (joinLabels g b (ordinaryLabels x)) (suc b) m q p (below-joins g b m (ordinaryLabels x) p h)
 
-groups-below : (program : List Block) → Below 384 (groups program)
+groups-below : (program : List Block) → Below allNodes (groups program)
 unfolding groups
-groups-below program = below-from (upFrom 0 384) 0 384 program (omega arith) alone
+groups-below program = below-from (upFrom 0 allNodes) 0 allNodes program (omega arith) alone
   where
-    alone : Below 384 (upFrom 0 384)
+    alone : Below allNodes (upFrom 0 allNodes)
     alone x =
-        ⊎-elim (λ s. rw (getD-upFrom 0 384 x s) (omega arith)) (λ s. rw (List·getD-eq-default (upFrom 0 384) 0 {n = x} (rw (length-upFrom 0 384) s)) (omega arith))
-        (lt-or-le x 384)
+        ⊎-elim (λ s. rw (getD-upFrom 0 allNodes x s) (omega arith)) (λ s. rw (List·getD-eq-default (upFrom 0 allNodes) 0 {n = x} (rw (length-upFrom 0 allNodes) s)) (omega arith))
+        (lt-or-le x allNodes)
 
-pub below-is : (program : List Block) (gs : List ℕ) → gs ≡ groups program → Below 384 gs
+pub below-is : (program : List Block) (gs : List ℕ) → gs ≡ groups program → Below allNodes gs
 below-is program gs e = rw e (groups-below program)
 
 -- ---- what stands so in a group, one block more
@@ -113,28 +114,28 @@ pick-at g x f z = go (eqb g x) refl
 -- the tallies of the first i blocks
 pub record Tallying (stands : Block → List ℕ) (gs : List ℕ) (blocks : List Block) (i : ℕ) (counts firsts : List ℕ) : Type 0 where
   pub tallied : Tallied stands gs (take i blocks) counts firsts
-  pub all-counts : length counts ≡ 384
-  pub all-firsts : length firsts ≡ 384
+  pub all-counts : length counts ≡ allNodes
+  pub all-firsts : length firsts ≡ allNodes
   pub low : Low (8 * i) counts
 
 module _ (stands : Block → List ℕ) (gs : List ℕ) (blocks : List Block) where
-  pub tallying-none : Tallying stands gs blocks 0 (replicate 384 0) (replicate 384 0)
+  pub tallying-none : Tallying stands gs blocks 0 (replicate allNodes 0) (replicate allNodes 0)
   unfolding within
   tallying-none =
       record {
-        tallied = record { many = λ g. getD-same 384 g 0; first = λ g. getD-same 384 g 0 };
+        tallied = record { many = λ g. getD-same allNodes g 0; first = λ g. getD-same allNodes g 0 };
         all-counts = refl;
         all-firsts = refl;
-        low = λ x. omega (arith, getD-same {A = ℕ} 384 x 0);
+        low = λ x. omega (arith, getD-same {A = ℕ} allNodes x 0);
       }
 
-  pub tallying-room : (i : ℕ) (counts firsts : List ℕ) → Tallying stands gs blocks i counts firsts → i ≤ 128 → Low 1024 counts
+  pub tallying-room : (i : ℕ) (counts firsts : List ℕ) → Tallying stands gs blocks i counts firsts → i ≤ 128 → Low most counts
   tallying-room i counts firsts t h x = omega (arith, t .low x)
 
   module _ (i : ℕ) (counts firsts : List ℕ) (f : Few) (t : Tallying stands gs blocks i counts firsts) (h : i < length blocks)
-      (l : Lists f (stands (getD blocks i blank))) (long : length (f .labels) ≡ 8) (g : ℕ) (e : g ≡ getD gs i 0) (s : g < 384) where
+      (l : Lists f (stands (getD blocks i blank))) (g : ℕ) (e : g ≡ getD gs i 0) (s : g < allNodes) where
     size : f .count ≡ length (stands (getD blocks i blank))
-    size = sym (ap length (sym (l .same)) ∙ length-take-le (f .count) (f .labels) (rw long (l .small)))
+    size = sym (ap length (sym (l .same)) ∙ length-take-le (f .count) (f .labels) (rw (l .long) (l .small)))
 
     grown : (x : ℕ) → within stands gs x 0 (take (i + 1) blocks) ≡ within stands gs x 0 (take i blocks) ++ pick (eqb g x) (stands (getD blocks i blank)) []
     grown x = within-more stands gs blocks x i h ∙ rw e

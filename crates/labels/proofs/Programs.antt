@@ -5,12 +5,12 @@ use native.Mathlib.Omega.{arith}
 use native.Mathlib.Nat.{not-suc-le-zero, le-of-suc-le-suc, eq-or-lt-of-le}
 use mathlib.Core.Path.{_≡_, refl, sym, ap, subst, _∙_}
 use mathlib.Core.Logic.{⊎-elim}
-use mathlib.Core.Bool.{Bool, true, false, _&&_, _||_, or-false, or-true, or-assoc, and-assoc, and-true, and-false}
+use mathlib.Core.Bool.{Bool, true, false, _&&_, _||_, or-false, or-true, or-assoc, and-true, and-false}
 use mathlib.Core.List.{List, [], _∷_, _++_}
 use lib.ListN.{length, take, getD, set, replicate}
 use lib.Dec.{eqb}
-use borrow.Author.Tests.{eqb-true, eqb-false}
 use lib.Seq.{getD-set-same, getD-set-other, take-suc, length-take-le, getD-take}
+use borrow.Author.Tests.{eqb-true, eqb-false}
 use Rattle.rules.specs.Base.{pick, some-of, each-of, someBelow}
 use Rattle.rules.specs.Labels.{noBlock, blockOf}
 use Rattle.rules.specs.declared.Block.{Block}
@@ -21,6 +21,7 @@ use Rattle.rules.specs.declared.Change.{Change}
 use Rattle.rules.specs.declared.Target.{Target}
 use Rattle.rules.specs.declared.Expression.{Expression}
 use Rattle.rules.specs.declared.Operand.{Operand}
+use Rattle.laws.proofs.Lists.{each-append, getD-any}
 
 pub pick-le : (t : Bool) (a b m : ℕ) → a ≤ m → b ≤ m → pick t a b ≤ m
 unfolding pick
@@ -28,12 +29,6 @@ pick-le true a b m p q = p
 pick-le false a b m p q = q
 
 module _ {A : Type 0} where
-  -- the default plays no part within a list
-  pub getD-any : (l : List A) (i : ℕ) (d e : A) → i < length l → getD l i d ≡ getD l i e
-  getD-any [] i d e h = absurd (not-suc-le-zero h)
-  getD-any (a ∷ l) zero d e h = refl
-  getD-any (a ∷ l) (suc i) d e h = getD-any l i d e (le-of-suc-le-suc h)
-
   pub getD-same : (n i : ℕ) (a : A) → getD (replicate n a) i a ≡ a
   getD-same zero i a = refl
   getD-same (suc n) zero a = refl
@@ -61,14 +56,9 @@ module _ {A : Type 0} where
   unfolding some-of
   some-of-more p l i d h = rw (take-more l i d h) (some-of-append p (take i l) (getD l i d ∷ []) ∙ ap (λ (b : Bool). some-of p (take i l) || b) (or-false (p (getD l i d))))
 
-  pub each-of-append : (p : A → Bool) (l m : List A) → each-of p (l ++ m) ≡ each-of p l && each-of p m
-  unfolding each-of
-  each-of-append p [] m = refl
-  each-of-append p (a ∷ l) m = rw (each-of-append p l m) (sym (and-assoc (p a) (each-of p l) (each-of p m)))
-
   pub each-of-more : (p : A → Bool) (l : List A) (i : ℕ) (d : A) → i < length l → each-of p (take (i + 1) l) ≡ each-of p (take i l) && p (getD l i d)
   unfolding each-of
-  each-of-more p l i d h = rw (take-more l i d h) (each-of-append p (take i l) (getD l i d ∷ []) ∙ ap (λ (b : Bool). each-of p (take i l) && b) (and-true (p (getD l i d))))
+  each-of-more p l i d h = rw (take-more l i d h) (each-append p (take i l) (getD l i d ∷ []) ∙ ap (λ (b : Bool). each-of p (take i l) && b) (and-true (p (getD l i d))))
 
   -- an element of the first m fails, or passes
   pub each-of-fails : (p : A → Bool) (l : List A) (k m : ℕ) (d : A) → k < m → m ≤ length l → p (getD l k d) ≡ false → each-of p (take m l) ≡ false

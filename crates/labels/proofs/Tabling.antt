@@ -1,9 +1,9 @@
 -- What a table of calls holds, block by block; codes 12 and 13 from the counts. Assumes nothing.
 use Prim.Native.Nat.{ℕ, zero, suc, _+_, _*_, _<_, _≤_}
-use native.Mathlib.Nat.{not-suc-le-zero, le-of-suc-le-suc, suc-add, zero-add}
+use native.Mathlib.Nat.{suc-add, zero-add}
 use native.Mathlib.Numerals.{add-one}
 use native.Mathlib.Omega.{arith}
-use mathlib.Core.Path.{_≡_, refl, sym, ap, subst, fun-ext, _∙_}
+use mathlib.Core.Path.{_≡_, refl, sym, ap, fun-ext, _∙_}
 use mathlib.Core.Bool.{Bool, true, false}
 use mathlib.Core.List.{List, [], _∷_, _++_, map, map-append, append-assoc}
 use lib.ListN.{length, take, drop, getD, set, length-set, replicate}
@@ -11,11 +11,12 @@ use lib.Seq.{getD-set-same, getD-set-other, take-suc, take-nil, take-take, take-
 use lib.Dec.{eqb}
 use borrow.Author.Tests.{eq-eqb, ne-eqb}
 use borrow.Author.Count.{below-none, below-more}
-use Rattle.rules.specs.Base.{pick, some-of}
+use Rattle.rules.specs.Base.{some-of}
 use Rattle.rules.specs.Labels.{calledBy, begins, bad12}
 use Rattle.rules.specs.Calls.{bad13}
 use Rattle.rules.specs.declared.Block.{Block}
 use Rattle.laws.specs.CallTable.{callsFrom}
+use Rattle.labels.specs.Calls.{places}
 use Rattle.labels.specs.declared.short.Few.{Few}
 use Rattle.labels.specs.declared.counts.Counts.{Counts}
 use Rattle.labels.specs.Few.{few, Lists}
@@ -23,12 +24,16 @@ use Rattle.labels.specs.Counts.{CountsOf}
 use Rattle.labels.proofs.Programs.{blank, pick-le, getD-same, getD-set}
 
 -- ---- codes 12 and 13
-pub bad12-is : (program : List Block) (c : Counts) (b : Block) (f : Few) → CountsOf program c → Lists f (calledBy (b .instruction))
+read-off : (program : List Block) (c : Counts) (b : Block) (f : Few) → CountsOf program c → Lists f (calledBy (b .instruction))
     → some-of (λ l. eqb (getD (c .begins) l 0) 0) (few f) ≡ bad12 program b
 unfolding bad12
-bad12-is program c b f h l =
+read-off program c b f h l =
     ap (some-of (λ l. eqb (getD (c .begins) l 0) 0)) (l .same)
     ∙ ap (λ (p : ℕ → Bool). some-of p (calledBy (b .instruction))) (fun-ext (λ x. ap (λ (k : ℕ). eqb k 0) (h .begins .each x)))
+
+pub bad12-is : (program : List Block) (c : Counts) (b : Block) (f : Few) (r v : Bool) → CountsOf program c → Lists f (calledBy (b .instruction))
+    → r ≡ some-of (λ l. eqb (getD (c .begins) l 0) 0) (few f) → r ≡ v → bad12 program b ≡ v
+bad12-is program c b f r v h l e q = sym (read-off program c b f h l) ∙ sym e ∙ q
 
 pub no-begin : (a : List ℕ) (l x : ℕ) → l ≡ x → getD a l 0 ≡ 0 → eqb (getD a x 0) 0 ≡ true
 no-begin a l x h e = eq-eqb _ _ (ap (λ (k : ℕ). getD a k 0) (sym h) ∙ e)
@@ -57,7 +62,7 @@ module _ {A : Type 0} where
 -- the calls of the first i blocks
 pub record Tabled (blocks : List Block) (i : ℕ) (counts names : List ℕ) : Type 0 where
   pub all-counts : length counts ≡ 128
-  pub all-names : length names ≡ 1024
+  pub all-names : length names ≡ places
   pub few : (b : ℕ) → getD counts b 0 ≤ 8
   pub each : (b : ℕ) → b < i → take (getD counts b 0) (drop (8 * b) names) ≡ calledBy (getD blocks b blank .instruction)
 
@@ -81,13 +86,13 @@ stored-there names labels at c h s l =
     ∙ take-take c 8 labels l
 
 module _ (blocks : List Block) where
-  pub tabled-none : Tabled blocks 0 (replicate 128 0) (replicate 1024 0)
+  pub tabled-none : Tabled blocks 0 (replicate 128 0) (replicate places 0)
   tabled-none = record { all-counts = refl; all-names = refl; few = λ b. omega (arith, getD-same {A = ℕ} 128 b 0); each = below-none _ }
 
   put : (i : ℕ) (counts names labels : List ℕ) (c : ℕ) → i < 128 → Tabled blocks i counts names → c ≤ 8 → length labels ≡ 8
       → take c labels ≡ calledBy (getD blocks i blank .instruction) → Tabled blocks (i + 1) (set counts i c) (paste names (8 * i) labels 8)
   put i counts names labels c h t small long e =
-      let n : length names ≡ 1024 = t .all-names in
+      let n : length names ≡ places = t .all-names in
       let m : length counts ≡ 128 = t .all-counts in
       record {
         all-counts = length-set counts i c ∙ m;
@@ -96,15 +101,15 @@ module _ (blocks : List Block) where
         each =
             below-more _ i
             (λ b l.
-              rw (getD-set-other counts i b c 0 (omega arith))
-              (same-window (8 * b) (getD counts b 0) (8 * i) _ names (omega (arith, t .few b)) (stored-before names labels (8 * i) (omega arith)) ∙ t .each b l))
+            rw (getD-set-other counts i b c 0 (omega arith))
+            (same-window (8 * b) (getD counts b 0) (8 * i) _ names (omega (arith, t .few b)) (stored-before names labels (8 * i) (omega arith)) ∙ t .each b l))
             (rw (getD-set-same counts i c 0 (omega arith)) (stored-there names labels (8 * i) c (omega arith) long small ∙ e));
       }
 
   pub tabled-more : (i : ℕ) (counts names after : List ℕ) (f : Few) (c : ℕ) → i < 128 → Tabled blocks i counts names
-      → Lists f (calledBy (getD blocks i blank .instruction)) → length (f .labels) ≡ 8 → c ≡ f .count → after ≡ paste names (8 * i) (f .labels) 8
+      → Lists f (calledBy (getD blocks i blank .instruction)) → c ≡ f .count → after ≡ paste names (8 * i) (f .labels) 8
       → Tabled blocks (i + 1) (set counts i c) after
-  tabled-more i counts names after f c h t l long q e = rw (q, e) (put i counts names (f .labels) (f .count) h t (l .small) long (l .same))
+  tabled-more i counts names after f c h t l q e = rw (q, e) (put i counts names (f .labels) (f .count) h t (l .small) (l .long) (l .same))
 
   pub tabled-all : (counts names : List ℕ) (n : ℕ) → n ≤ length blocks
       → ((b : ℕ) → b < n → take (getD counts b 0) (drop (8 * b) names) ≡ calledBy (getD blocks b blank .instruction))

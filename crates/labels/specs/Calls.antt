@@ -1,12 +1,17 @@
 -- What a table of calls has of a program.
-use Prim.Native.Nat.{ℕ, _≤_}
+use Prim.Native.Nat.{ℕ, _*_, _≤_}
 use mathlib.Core.Path.{_≡_}
 use mathlib.Core.List.{List, map}
 use lib.ListN.{getD}
+use Rattle.rules.specs.Format.{mostBlocks}
 use Rattle.rules.specs.Labels.{calledBy}
 use Rattle.rules.specs.declared.Block.{Block}
 use Rattle.laws.specs.CallTable.{callsFrom}
 use Rattle.labels.specs.declared.calls.CallTable.{CallTable}
+
+-- each block has eight places
+abbrev pub places : ℕ
+places = 8 * mostBlocks
 
 -- the labels that each of its n blocks calls, and no count over eight
 pub record CallsOf (program : List Block) (n : ℕ) (t : CallTable) : Type 0 where

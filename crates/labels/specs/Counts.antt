@@ -1,14 +1,19 @@
 -- Tables of counts, one for each label, and code 10 read off them.
-use Prim.Native.Nat.{ℕ, _+_, _≤_}
+use Prim.Native.Nat.{ℕ, _+_, _*_, _≤_}
 use mathlib.Core.Path.{_≡_}
 use mathlib.Core.Bool.{Bool, not, _&&_}
 use mathlib.Core.List.{List, _++_}
 use lib.ListN.{length, getD}
 use lib.Dec.{eqb}
 use Rattle.rules.specs.Base.{times, each-of}
+use Rattle.rules.specs.Format.{mostBlocks, labels}
 use Rattle.rules.specs.Labels.{entryLabels, exitLabels, beginLabels, endLabels, count}
 use Rattle.rules.specs.declared.Block.{Block}
 use Rattle.labels.specs.declared.counts.Counts.{Counts}
+
+-- blocks have at most eight labels each
+abbrev pub most : ℕ
+most = 8 * mostBlocks
 
 -- no count is over m
 abbrev pub Low : ℕ → List ℕ → Type 0
@@ -21,7 +26,7 @@ pub record Raised (before labels after : List ℕ) : Type 0 where
 
 -- the labels that stand so in the blocks of a program
 pub record Counted (stands : Block → List ℕ) (program : List Block) (a : List ℕ) : Type 0 where
-  pub size : length a ≡ 256
+  pub size : length a ≡ labels
   pub each : (x : ℕ) → getD a x 0 ≡ count stands program x
 
 pub record CountsOf (program : List Block) (c : Counts) : Type 0 where

@@ -2,7 +2,7 @@
 use Prim.Native.Nat.{ℕ, _≤_}
 use mathlib.Core.Path.{_≡_}
 use mathlib.Core.List.{List}
-use lib.ListN.{take}
+use lib.ListN.{length, take}
 use Rattle.labels.specs.declared.short.Few.{Few}
 
 abbrev pub few : Few → List ℕ
@@ -12,3 +12,4 @@ few f = take (f .count) (f .labels)
 pub record Lists (f : Few) (l : List ℕ) : Type 0 where
   pub same : few f ≡ l
   pub small : f .count ≤ 8
+  pub long : length (f .labels) ≡ 8

@@ -3,4 +3,5 @@ pub mod Few
 pub mod Marks
 pub mod Counts
 pub mod Calls
+pub mod Nodes
 pub mod Own

@@ -4,29 +4,35 @@ use crate::short;
 use crate::short::Few;
 use rules::Block;
 ghost use mathlib.Core.Path.{_≡_};
-ghost use Prim.Native.Nat.{ℕ, _+_, _≤_};
+ghost use Prim.Native.Nat.{_+_, _≤_};
 ghost use lib.ListN.{length, take, getD};
 ghost use lib.Dec.{eqb};
 ghost use lib.Seq.{paste};
 ghost use Rattle.rules.specs.Base.{lowest, some-of};
+ghost use Rattle.rules.specs.Format.{mostBlocks};
 ghost use Rattle.rules.specs.Labels.{blockOf, bad12};
 ghost use Rattle.rules.specs.Calls.{bad13};
 ghost use Rattle.labels.specs.Few.{few};
-ghost use Rattle.labels.specs.Calls.{CallsOf};
+ghost use Rattle.labels.specs.Calls.{places, CallsOf};
 
-// How many labels each block calls, and eight places for them a block.
+// Each block has eight places for the labels that it calls.
+const MOST: usize = 8;
+
+const PLACES: usize = 1024;
+
+// How many labels each block calls, and which.
 pub struct CallTable {
     pub counts: [u8; 128],
-    pub names: [u8; 1024],
+    pub names: [u8; PLACES],
 }
 
 // The labels stored from a place on.
-fn store(names: &mut [u8; 1024], at: usize, labels: [u8; 8])
-    requires { ⌜ (length (now names) ≡ 1024) × (at + 8 ≤ 1024) ⌝ }
+fn store(names: &mut [u8; PLACES], at: usize, labels: [u8; MOST])
+    requires { ⌜ (length (now names) ≡ places) × (at + 8 ≤ places) ⌝ }
     ensures { λ r. ⌜ now (names .exit) ≡ paste (now (names .entry)) at labels 8 ⌝ }
 {
     let mut k: usize = 0;
-    while k < 8 {
+    while k < MOST {
         names[at + k] = labels[k];
         k += 1;
     }
@@ -40,12 +46,13 @@ fn byte(count: usize) -> u8
     count as u8
 }
 
+// The labels that each block calls.
 pub fn call_table(blocks: [Block; 128], n: usize) -> CallTable
-    requires { ⌜ n ≤ 128 ⌝ }
+    requires { ⌜ n ≤ mostBlocks ⌝ }
     ensures { λ r. ⌜ CallsOf (take n blocks) n r ⌝ }
 {
     let mut counts = [0u8; 128];
-    let mut names = [0u8; 1024];
+    let mut names = [0u8; PLACES];
     let mut i: usize = 0;
     while i < n {
         let b = blocks[i];
@@ -54,7 +61,7 @@ pub fn call_table(blocks: [Block; 128], n: usize) -> CallTable
         let count = byte(f.count);
         let labels = f.labels;
         counts[i] = count;
-        store(&mut names, 8 * i, labels);
+        store(&mut names, MOST * i, labels);
         i += 1;
     }
     CallTable { counts, names }
@@ -80,7 +87,7 @@ fn is_bad(begins: &[u16; 256], f: Few) -> bool
 
 // The lowest block that is refused, or the number of blocks.
 pub fn twelve(blocks: [Block; 128], n: usize) -> usize
-    requires { ⌜ n ≤ 128 ⌝ }
+    requires { ⌜ n ≤ mostBlocks ⌝ }
     ensures { λ r. ⌜ r ≡ lowest (λ b. bad12 (take n blocks) (blockOf (take n blocks) b)) n ⌝ }
 {
     let counts = counts_of(blocks, n);
@@ -99,7 +106,7 @@ pub fn twelve(blocks: [Block; 128], n: usize) -> usize
 
 // There is no `begin 0`.
 pub fn thirteen(blocks: [Block; 128], n: usize) -> bool
-    requires { ⌜ n ≤ 128 ⌝ }
+    requires { ⌜ n ≤ mostBlocks ⌝ }
     ensures { λ r. ⌜ r ≡ bad13 (take n blocks) ⌝ }
 {
     let counts = counts_of(blocks, n);

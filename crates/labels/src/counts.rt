@@ -3,12 +3,13 @@ use crate::short;
 use crate::short::Few;
 use rules::Block;
 ghost use mathlib.Core.Path.{_≡_};
-ghost use Prim.Native.Nat.{ℕ, _≤_};
+ghost use Prim.Native.Nat.{_≤_};
 ghost use lib.ListN.{length, take};
 ghost use Rattle.rules.specs.Base.{lowest, each-of};
+ghost use Rattle.rules.specs.Format.{mostBlocks, labels};
 ghost use Rattle.rules.specs.Labels.{blockOf, bad10};
 ghost use Rattle.labels.specs.Few.{few};
-ghost use Rattle.labels.specs.Counts.{Low, Raised, CountsOf, once, onceAt, badBy};
+ghost use Rattle.labels.specs.Counts.{most, Low, Raised, CountsOf, once, onceAt, badBy};
 
 // For each label, in how many entries, exits, begins and ends it stands.
 pub struct Counts {
@@ -20,7 +21,7 @@ pub struct Counts {
 
 // One more for each of the labels.
 fn add(counts: &mut [u16; 256], f: Few)
-    requires { ⌜ (length (now counts) ≡ 256) × Low 1024 (now counts) × (f .count ≤ 8) ⌝ }
+    requires { ⌜ (length (now counts) ≡ labels) × Low most (now counts) × (f .count ≤ 8) ⌝ }
     ensures { λ r. ⌜ Raised (now (counts .entry)) (few f) (now (counts .exit)) ⌝ }
 {
     let labels = f.labels;
@@ -33,8 +34,9 @@ fn add(counts: &mut [u16; 256], f: Few)
     }
 }
 
+// The labels of all blocks counted.
 pub fn counts_of(blocks: [Block; 128], n: usize) -> Counts
-    requires { ⌜ n ≤ 128 ⌝ }
+    requires { ⌜ n ≤ mostBlocks ⌝ }
     ensures { λ r. ⌜ CountsOf (take n blocks) r ⌝ }
 {
     let mut entries = [0u16; 256];
@@ -120,7 +122,7 @@ fn is_bad(
 
 // The lowest block that is refused, or the number of blocks.
 pub fn ten(blocks: [Block; 128], n: usize) -> usize
-    requires { ⌜ n ≤ 128 ⌝ }
+    requires { ⌜ n ≤ mostBlocks ⌝ }
     ensures { λ r. ⌜ r ≡ lowest (λ b. bad10 (take n blocks) (blockOf (take n blocks) b)) n ⌝ }
 {
     let counts = counts_of(blocks, n);

@@ -5,22 +5,27 @@ use crate::short::Few;
 use rules::Block;
 ghost use mathlib.Core.List.{map};
 ghost use mathlib.Core.Path.{_≡_};
-ghost use Prim.Native.Nat.{ℕ, _+_, _<_, _≤_};
+ghost use Prim.Native.Nat.{_<_, _≤_};
 ghost use lib.ListN.{length, take};
 ghost use Rattle.rules.specs.Base.{upFrom};
-ghost use Rattle.rules.specs.Format.{mostBlocks, labels};
+ghost use Rattle.rules.specs.Format.{mostBlocks};
 ghost use Rattle.rules.specs.Labels.{renamed, joinLabels, groups};
 ghost use Rattle.labels.specs.Few.{few};
+ghost use Rattle.labels.specs.Nodes.{allNodes};
+
+// 128 blocks, then 256 labels.
+const FIRST_LABEL: usize = 128;
+
+const NODES: usize = 384;
 
 // Each node by itself.
-fn alone() -> [u16; 384]
-    ensures { λ r. ⌜ r ≡ upFrom 0 (mostBlocks + labels) ⌝ }
+fn alone() -> [u16; NODES]
+    ensures { λ r. ⌜ r ≡ upFrom 0 (allNodes) ⌝ }
 {
-    let mut nodes = [0u16; 384];
-    let mut i: u16 = 0;
-    while i < 384 {
-        let at = i as usize;
-        nodes[at] = i;
+    let mut nodes = [0u16; NODES];
+    let mut i: usize = 0;
+    while i < NODES {
+        nodes[i] = i as u16;
         i += 1;
     }
     nodes
@@ -33,12 +38,12 @@ fn new_name(old: u16, new: u16, a: u16) -> u16
 }
 
 // The group that goes by the old number takes the new one.
-fn rename(nodes: &mut [u16; 384], old: u16, new: u16)
-    requires { ⌜ length (now nodes) ≡ 384 ⌝ }
+fn rename(nodes: &mut [u16; NODES], old: u16, new: u16)
+    requires { ⌜ length (now nodes) ≡ allNodes ⌝ }
     ensures { λ r. ⌜ now (nodes .exit) ≡ map (renamed old new) (now (nodes .entry)) ⌝ }
 {
     let mut i: usize = 0;
-    while i < 384 {
+    while i < NODES {
         let a = new_name(old, new, nodes[i]);
         nodes[i] = a;
         i += 1;
@@ -46,15 +51,15 @@ fn rename(nodes: &mut [u16; 384], old: u16, new: u16)
 }
 
 // Block b is joined with each of the labels.
-fn join(nodes: &mut [u16; 384], b: usize, f: Few)
-    requires { ⌜ (length (now nodes) ≡ 384) × (b < 128) × (f .count ≤ 8) ⌝ }
+fn join(nodes: &mut [u16; NODES], b: usize, f: Few)
+    requires { ⌜ (length (now nodes) ≡ allNodes) × (b < mostBlocks) × (f .count ≤ 8) ⌝ }
     ensures { λ r. ⌜ now (nodes .exit) ≡ joinLabels (now (nodes .entry)) b (few f) ⌝ }
 {
     let labels = f.labels;
     let count = f.count;
     let mut k: usize = 0;
     while k < count {
-        let l = 128 + laws::index(labels[k]);
+        let l = FIRST_LABEL + laws::index(labels[k]);
         let old = nodes[l];
         let new = nodes[b];
         rename(nodes, old, new);
@@ -63,8 +68,8 @@ fn join(nodes: &mut [u16; 384], b: usize, f: Few)
 }
 
 // The number that each node's group goes by.
-pub fn groups_of(blocks: [Block; 128], n: usize) -> [u16; 384]
-    requires { ⌜ n ≤ 128 ⌝ }
+pub fn groups_of(blocks: [Block; 128], n: usize) -> [u16; NODES]
+    requires { ⌜ n ≤ mostBlocks ⌝ }
     ensures { λ r. ⌜ r ≡ groups (take n blocks) ⌝ }
 {
     let mut nodes = alone();

@@ -10,15 +10,20 @@ ghost use Prim.Native.Nat.{_<_, _≤_};
 ghost use lib.ListN.{length, take, getD};
 ghost use lib.Dec.{eqb};
 ghost use Rattle.rules.specs.Base.{pick, lowest, upFrom};
-ghost use Rattle.labels.specs.Counts.{Low};
+ghost use Rattle.rules.specs.Format.{mostBlocks};
+ghost use Rattle.labels.specs.Counts.{most, Low};
+ghost use Rattle.labels.specs.Nodes.{allNodes};
 ghost use Rattle.labels.specs.Own.{Below, notedCounts, notedFirsts, OwnOf, oneAt, ProcessesOf};
+
+// Groups go by the numbers of 128 blocks and 256 labels.
+const NODES: usize = 384;
 
 // For each group, how many begins it has and the first one's label, how many ends and the first one's.
 pub struct Own {
-    pub begins: [u16; 384],
-    pub opening: [u8; 384],
-    pub ends: [u16; 384],
-    pub closing: [u8; 384],
+    pub begins: [u16; NODES],
+    pub opening: [u8; NODES],
+    pub ends: [u16; NODES],
+    pub closing: [u8; NODES],
 }
 
 // The lowest block that is refused, or the number of blocks; and the label of each block's process block.
@@ -34,6 +39,7 @@ fn place(g: u16) -> usize
     g as usize
 }
 
+// The first label noted stays.
 fn first_of(count: u16, old: u8, new: u8) -> u8
     ensures { λ r. ⌜ r ≡ pick (eqb count 0) new old ⌝ }
 {
@@ -41,10 +47,11 @@ fn first_of(count: u16, old: u8, new: u8) -> u8
 }
 
 // The labels noted in group g.
-fn note(counts: &mut [u16; 384], firsts: &mut [u8; 384], g: usize, f: Few)
-    requires { ⌜ (length (now counts) ≡ 384) × (length (now firsts) ≡ 384) × Low 1024 (now counts) ⌝ }
-    requires { ⌜ (g < 384) × (f .count ≤ 8) ⌝ }
-    ensures { λ r. ⌜ (now (counts .exit) ≡ notedCounts (now (counts .entry)) g f) × (now (firsts .exit) ≡ notedFirsts (now (counts .entry)) (now (firsts .entry)) g f) ⌝ }
+fn note(counts: &mut [u16; NODES], firsts: &mut [u8; NODES], g: usize, f: Few)
+    requires { ⌜ (length (now counts) ≡ allNodes) × (length (now firsts) ≡ allNodes) × Low most (now counts) ⌝ }
+    requires { ⌜ (g < allNodes) × (f .count ≤ 8) ⌝ }
+    ensures { λ r. ⌜ (now (counts .exit) ≡ notedCounts (now (counts .entry)) g f)
+        × (now (firsts .exit) ≡ notedFirsts (now (counts .entry)) (now (firsts .entry)) g f) ⌝ }
 {
     let count = counts[g];
     let more = f.count as u16;
@@ -53,14 +60,15 @@ fn note(counts: &mut [u16; 384], firsts: &mut [u8; 384], g: usize, f: Few)
     counts[g] = count + more;
 }
 
-fn own_of(blocks: [Block; 128], n: usize, groups: &[u16; 384]) -> Own
-    requires { ⌜ (n ≤ 128) × Below 384 (now groups) ⌝ }
+// The begins and the ends of each group.
+fn own_of(blocks: [Block; 128], n: usize, groups: &[u16; NODES]) -> Own
+    requires { ⌜ (n ≤ mostBlocks) × Below allNodes (now groups) ⌝ }
     ensures { λ r. ⌜ OwnOf (now (groups .entry)) (take n blocks) r ⌝ }
 {
-    let mut begins = [0u16; 384];
-    let mut opening = [0u8; 384];
-    let mut ends = [0u16; 384];
-    let mut closing = [0u8; 384];
+    let mut begins = [0u16; NODES];
+    let mut opening = [0u8; NODES];
+    let mut ends = [0u16; NODES];
+    let mut closing = [0u8; NODES];
     let mut i: usize = 0;
     while i < n {
         let b = blocks[i];
@@ -92,8 +100,9 @@ fn one_label(begins: u16, opening: u8, ends: u16, closing: u8) -> bool
     opening == closing
 }
 
-fn first_bad(own: Own, n: usize, groups: &[u16; 384]) -> usize
-    requires { ⌜ (n ≤ 128) × Below 384 (now groups) ⌝ }
+// The lowest block whose process block is not whole, or the number of blocks.
+fn first_bad(own: Own, n: usize, groups: &[u16; NODES]) -> usize
+    requires { ⌜ (n ≤ mostBlocks) × Below allNodes (now groups) ⌝ }
     ensures { λ r. ⌜ r ≡ lowest (λ b. not (oneAt own (getD (now (groups .entry)) b 0))) n ⌝ }
 {
     let mut b: usize = 0;
@@ -107,8 +116,9 @@ fn first_bad(own: Own, n: usize, groups: &[u16; 384]) -> usize
     b
 }
 
-fn homes_of(opening: &[u8; 384], n: usize, groups: &[u16; 384]) -> [u8; 128]
-    requires { ⌜ (n ≤ 128) × Below 384 (now groups) ⌝ }
+// The label of each block's process block: its group's first begin.
+fn homes_of(opening: &[u8; NODES], n: usize, groups: &[u16; NODES]) -> [u8; 128]
+    requires { ⌜ (n ≤ mostBlocks) × Below allNodes (now groups) ⌝ }
     ensures { λ r. ⌜ take n r ≡ map (λ b. getD (now (opening .entry)) (getD (now (groups .entry)) b 0) 0) (upFrom 0 n) ⌝ }
 {
     let mut homes = [0u8; 128];
@@ -121,8 +131,9 @@ fn homes_of(opening: &[u8; 384], n: usize, groups: &[u16; 384]) -> [u8; 128]
     homes
 }
 
+// Code 11, and the label of each block's process block.
 pub fn process_blocks(blocks: [Block; 128], n: usize) -> Processes
-    requires { ⌜ n ≤ 128 ⌝ }
+    requires { ⌜ n ≤ mostBlocks ⌝ }
     ensures { λ r. ⌜ ProcessesOf (take n blocks) n r ⌝ }
 {
     let groups = groups_of(blocks, n);

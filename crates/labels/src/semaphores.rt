@@ -12,12 +12,17 @@ ghost use Prim.Native.Nat.{ℕ, _≤_};
 ghost use lib.ListN.{length, take, getD};
 ghost use lib.Dec.{eqb};
 ghost use Rattle.rules.specs.Base.{lowest, someBelow};
-ghost use Rattle.rules.specs.Format.{variables};
+ghost use Rattle.rules.specs.Format.{mostBlocks, variables, labels};
 ghost use Rattle.rules.specs.Names.{heap, operandNames, targetNames, expressionNames, entryNames, exitNames, otherNames, blockNames, semaphoreNames};
 ghost use Rattle.rules.specs.Labels.{semaphore, bad9, blockOf};
 ghost use Rattle.labels.specs.Marks.{Marked};
 
-// x names x; M[x] names x and the heap, which goes by the number after the last variable's.
+// Variables are 0 to 31, and the heap goes by the number after the last variable's.
+const VARIABLES: u8 = 32;
+
+const HEAP: u8 = VARIABLES;
+
+// A constant names nothing, x names x, and M[x] names x and the heap.
 fn operand_names(a: Operand, x: u8) -> bool
     ensures { λ r. ⌜ r ≡ operandNames a x ⌝ }
 {
@@ -34,7 +39,7 @@ fn cell_names(y: u8, x: u8) -> bool
     if y == x {
         return true;
     }
-    32 == x
+    HEAP == x
 }
 
 fn target_names(a: Target, x: u8) -> bool
@@ -135,7 +140,7 @@ pub fn block_names(b: Block, x: u8) -> bool
 
 // The variable of a V or P marked.
 fn mark(table: &mut [bool; 256], i: Instruction)
-    requires { ⌜ length (now table) ≡ 256 ⌝ }
+    requires { ⌜ length (now table) ≡ labels ⌝ }
     ensures { λ r. ⌜ Marked (now (table .entry)) (semaphoreNames i) (now (table .exit)) ⌝ }
 {
     match i {
@@ -150,7 +155,7 @@ fn mark(table: &mut [bool; 256], i: Instruction)
 }
 
 fn mark_variable(table: &mut [bool; 256], x: u8)
-    requires { ⌜ length (now table) ≡ 256 ⌝ }
+    requires { ⌜ length (now table) ≡ labels ⌝ }
     ensures { λ r. ⌜ Marked (now (table .entry)) (eqb x) (now (table .exit)) ⌝ }
 {
     let at = laws::index(x);
@@ -159,7 +164,7 @@ fn mark_variable(table: &mut [bool; 256], x: u8)
 
 // For each variable, whether some V or P names it.
 fn marks(blocks: [Block; 128], n: usize) -> [bool; 256]
-    requires { ⌜ n ≤ 128 ⌝ }
+    requires { ⌜ n ≤ mostBlocks ⌝ }
     ensures { λ r. ⌜ ((x : ℕ) → getD r x false ≡ semaphore (take n blocks) x) ⌝ }
 {
     let mut table = [false; 256];
@@ -187,7 +192,7 @@ fn is_bad(b: Block, table: &[bool; 256]) -> bool
     ensures { λ r. ⌜ r ≡ someBelow (λ x. getD (now (table .entry)) x false && blockNames b x) variables ⌝ }
 {
     let mut x: u8 = 0;
-    while x < 32 {
+    while x < VARIABLES {
         let at = laws::index(x);
         if clashes(b, table[at], x) {
             return true;
@@ -199,7 +204,7 @@ fn is_bad(b: Block, table: &[bool; 256]) -> bool
 
 // The lowest block that is refused, or the number of blocks.
 pub fn nine(blocks: [Block; 128], n: usize) -> usize
-    requires { ⌜ n ≤ 128 ⌝ }
+    requires { ⌜ n ≤ mostBlocks ⌝ }
     ensures { λ r. ⌜ r ≡ lowest (λ b. bad9 (take n blocks) (blockOf (take n blocks) b)) n ⌝ }
 {
     let table = marks(blocks, n);

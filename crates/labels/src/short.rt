@@ -3,31 +3,33 @@ use rules::Entry;
 use rules::Exit;
 use rules::Instruction;
 use rules::Names;
-ghost use mathlib.Core.List.{List, [], _∷_};
+ghost use mathlib.Core.List.{[], _∷_};
 ghost use mathlib.Core.Path.{_≡_};
-ghost use Prim.Native.Nat.{_≤_};
 ghost use lib.ListN.{getD};
 ghost use Rattle.rules.specs.Format.{named};
 ghost use Rattle.rules.specs.Labels.{entryLabels, exitLabels, beginLabels, endLabels, calledBy};
 ghost use Rattle.labels.specs.Few.{few, Lists};
 
+// A call names at most eight labels.
+const MOST: usize = 8;
+
 // The first count of eight labels.
 pub struct Few {
     pub count: usize,
-    pub labels: [u8; 8],
+    pub labels: [u8; MOST],
 }
 
 fn none() -> Few
     ensures { λ r. ⌜ Lists r [] ⌝ }
 {
-    let labels = [0u8; 8];
+    let labels = [0u8; MOST];
     Few { count: 0, labels }
 }
 
 fn one(l: u8) -> Few
     ensures { λ r. ⌜ Lists r (l ∷ []) ⌝ }
 {
-    let labels = [l; 8];
+    let labels = [l; MOST];
     Few { count: 1, labels }
 }
 
@@ -92,16 +94,27 @@ pub fn of_end(e: Exit) -> Few
     }
 }
 
+// The labels of a call.
 fn of_names(n: Names) -> Few
     ensures { λ r. ⌜ Lists r (named n) ⌝ }
 {
     let labels = [
-        n.first, n.second, n.third, n.fourth, n.fifth, n.sixth, n.seventh, n.eighth,
+        n.first,
+        n.second,
+        n.third,
+        n.fourth,
+        n.fifth,
+        n.sixth,
+        n.seventh,
+        n.eighth,
     ];
-    if 8 < n.count {
-        return Few { count: 8, labels };
-    }
     let count = laws::index(n.count);
+    if MOST < count {
+        return Few {
+            count: MOST,
+            labels,
+        };
+    }
     Few { count, labels }
 }
 

@@ -1,14 +1,13 @@
+-- `labels::calls::store` meets its contract. The loop's invariant: the labels that are passed are stored. Assumes nothing.
 use Prim.Native.Nat.{_≤_, _-_}
 use native.Mathlib.Omega.{arith}
 use mathlib.Core.Path.{_≡_, ap, _∙_}
 use lib.ListN.{length}
 use lib.Seq.{paste, paste-zero}
-use Rattle.labels.proofs.Tabling.{stored-more}
 use borrow.Author.Needs.{needs}
+use Rattle.labels.proofs.Tabling.{stored-more}
 use Rattle.labels.proofs.calls.store.Statement.{statement}
 use Rattle.labels.proofs.calls.store.Tie as tie
-use Rattle.labels.proofs.calls.store.Reads as reads
-use Rattle.labels.proofs.calls.store.Lts as lts
 
 abbrev Inv-loop : tie.InvT-loop
 Inv-loop names₀ at labels k₀ names k = (k ≤ 8) × (length labels ≡ 8) × (names ≡ paste names₀ at labels k)
@@ -16,38 +15,30 @@ Inv-loop names₀ at labels k₀ names k = (k ≤ 8) × (length labels ≡ 8) ×
 abbrev μ-loop : tie.MeasureT-loop
 μ-loop names₀ at labels k₀ names k = 8 - k
 
--- src/calls.rt:29:5
 loop-holds : tie.Need-loop-holds Inv-loop μ-loop
-loop-holds c = (search needs, search needs, paste-zero _ (c .args .at) (c .args .t3))
+loop-holds c = (omega arith, search needs, paste-zero _ (c .args .at) (c .args .t3))
 
--- src/calls.rt:30:25
 array-read-names : tie.Need-array-read-names Inv-loop μ-loop
-array-read-names c = search needs
+array-read-names c = omega arith
 
--- src/calls.rt:30:15
 add-names : tie.Need-add-names Inv-loop μ-loop
-add-names c = search needs
+add-names c = omega arith
 
--- src/calls.rt:30:9
 element-write-names : tie.Need-element-write-names Inv-loop μ-loop
-element-write-names c = search needs
+element-write-names c = omega arith
 
--- src/calls.rt:31:9
 add-k : tie.Need-add-k Inv-loop μ-loop
-add-k c = search needs
+add-k c = omega arith
 
--- src/calls.rt:29:5
 loop-less : tie.Need-loop-less Inv-loop μ-loop
-loop-less c = search needs
+loop-less c = omega arith
 
--- src/calls.rt:29:5
 loop-again : tie.Need-loop-again Inv-loop μ-loop
 loop-again c =
     let p = c .before in
     let s = p .before in
     (omega arith, p .loop .inv .1, stored-more (s .args .names .now) (s .args .t3) _ (s .args .at) (p .loop .k) (omega arith) (omega arith) (p .loop .inv .2))
 
--- src/calls.rt:24:1
 returns : tie.Need-returns Inv-loop μ-loop
 returns c =
     let p = c .before in

@@ -1,16 +1,13 @@
+-- `labels::processes::homes_of` meets its contract. The loop's invariant: the labels of the blocks that are passed are listed. Assumes nothing.
 use Prim.Native.Nat.{ℕ, _≤_, _-_}
 use native.Mathlib.Omega.{arith}
-use mathlib.Core.Path.{_≡_, refl, ap, _∙_}
+use mathlib.Core.Path.{_≡_, refl, ap}
 use mathlib.Core.List.{map}
 use lib.ListN.{length, take, getD, length-set}
 use Rattle.rules.specs.Base.{upFrom}
 use Rattle.labels.proofs.Owning.{listed-more}
-use borrow.Author.Needs.{needs}
 use Rattle.labels.proofs.processes.homes_of.Statement.{statement}
 use Rattle.labels.proofs.processes.homes_of.Tie as tie
-use Rattle.labels.proofs.processes.homes_of.Reads as reads
-use Rattle.labels.proofs.processes.homes_of.Lts as lts
-use Rattle.labels.proofs.processes.place.Reads as place-reads
 
 abbrev Inv-loop : tie.InvT-loop
 Inv-loop opening n groups homes₀ b₀ homes b =
@@ -19,47 +16,39 @@ Inv-loop opening n groups homes₀ b₀ homes b =
 abbrev μ-loop : tie.MeasureT-loop
 μ-loop opening n groups homes₀ b₀ homes b = n - b
 
--- src/processes.rt:116:5
 loop-holds : tie.Need-loop-holds Inv-loop μ-loop
 unfolding upFrom
-loop-holds c = (search needs, refl, refl)
+loop-holds c = (omega arith, refl, refl)
 
--- src/processes.rt:117:23
 mul-place : tie.Need-mul-place Inv-loop μ-loop
-mul-place c = search needs
+mul-place c = omega arith
 
--- src/processes.rt:117:23
 element-copy-out-place : tie.Need-element-copy-out-place Inv-loop μ-loop
-element-copy-out-place c = search needs
+element-copy-out-place c = omega arith
 
--- src/processes.rt:117:13
 place-requires : tie.Need-place-requires Inv-loop μ-loop
-place-requires c κs = search needs
+place-requires c κs = tt
 
--- src/processes.rt:118:20
 element-copy-out-homes : tie.Need-element-copy-out-homes Inv-loop μ-loop
 element-copy-out-homes c = let p = c .before .before .before in omega (arith, p .before .pre .1 (p .loop .b))
 
--- src/processes.rt:118:9
 array-write-homes : tie.Need-array-write-homes Inv-loop μ-loop
-array-write-homes c = search needs
+array-write-homes c = omega arith
 
--- src/processes.rt:119:9
 add-b : tie.Need-add-b Inv-loop μ-loop
-add-b c = search needs
+add-b c = omega arith
 
--- src/processes.rt:116:5
 loop-less : tie.Need-loop-less Inv-loop μ-loop
-loop-less c = search needs
+loop-less c = omega arith
 
--- src/processes.rt:116:5
 loop-again : tie.Need-loop-again Inv-loop μ-loop
 loop-again c =
-    let p = c .before .before .before .before in
-    (omega arith, simp length-set (p .loop .inv .1),
-      listed-more _ _ (p .loop .b) _ (omega arith) (p .loop .inv .2) (ap (λ (k : ℕ). getD (p .before .args .opening .now) k 0) (c .before .place .ensures)))
+    let p = c .before .before .before .before in (
+      omega arith,
+      simp length-set (p .loop .inv .1),
+      listed-more _ _ (p .loop .b) _ (omega arith) (p .loop .inv .2) (ap (λ (k : ℕ). getD (p .before .args .opening .now) k 0) (c .before .place .ensures)),
+    )
 
--- src/processes.rt:110:1
 returns : tie.Need-returns Inv-loop μ-loop
 returns c =
     let p = c .before in

@@ -1,21 +1,17 @@
-use Rattle.rules.specs.Base.{pick}
+-- `labels::processes::one_label` meets its contract. Test by test. Assumes nothing.
 use borrow.Author.Tests.{ne-eqb, eq-eqb}
+use Rattle.rules.specs.Base.{pick}
 use Rattle.labels.proofs.processes.one_label.Statement.{statement}
 use Rattle.labels.proofs.processes.one_label.Tie as tie
-use Rattle.labels.proofs.processes.one_label.Reads as reads
-use Rattle.labels.proofs.processes.one_label.Lts as lts
 
--- src/processes.rt:87:9
 returns : tie.Need-returns
 unfolding pick
 returns c = simp (ne-eqb _ _ (c .if1 .taken))
 
--- src/processes.rt:90:9
 returns-2 : tie.Need-returns-2
 unfolding pick
 returns-2 c = simp (ne-eqb _ _ (c .if2 .taken), eq-eqb _ _ (c .before .if1 .left))
 
--- src/processes.rt:83:1
 returns-3 : tie.Need-returns-3
 unfolding pick
 returns-3 c = simp (eq-eqb _ _ (c .if2 .left), eq-eqb _ _ (c .before .if1 .left))

@@ -1,18 +1,14 @@
+-- `labels::processes::own_of` meets its contract. The loop's invariant: the tallies are those of the blocks that are passed. Assumes nothing.
+use Prim.Native.Nat.{ℕ}
 use Prim.Native.Nat.{_≤_, _<_, _-_}
 use native.Mathlib.Omega.{arith}
 use mathlib.Core.Path.{_≡_}
 use lib.ListN.{length}
 use Rattle.rules.specs.Labels.{beginLabels, endLabels}
+use Rattle.labels.specs.Nodes.{allNodes}
 use Rattle.labels.proofs.Owning.{Tallying, tallying-none, tallying-room, tallying-more, tallying-all}
-use borrow.Author.Needs.{needs}
 use Rattle.labels.proofs.processes.own_of.Statement.{statement}
 use Rattle.labels.proofs.processes.own_of.Tie as tie
-use Rattle.labels.proofs.processes.own_of.Reads as reads
-use Rattle.labels.proofs.processes.own_of.Lts as lts
-use Rattle.labels.proofs.processes.note.Reads as note-reads
-use Rattle.labels.proofs.processes.place.Reads as place-reads
-use Rattle.labels.proofs.short.of_begin.Reads as of-begin-reads
-use Rattle.labels.proofs.short.of_end.Reads as of-end-reads
 
 abbrev Inv-loop : tie.InvT-loop
 Inv-loop n groups blocks begins₀ opening₀ ends₀ closing₀ i₀ begins opening ends closing i =
@@ -24,74 +20,64 @@ Inv-loop n groups blocks begins₀ opening₀ ends₀ closing₀ i₀ begins ope
 abbrev μ-loop : tie.MeasureT-loop
 μ-loop n groups blocks begins₀ opening₀ ends₀ closing₀ i₀ begins opening ends closing i = n - i
 
--- src/processes.rt:65:5
 loop-holds : tie.Need-loop-holds Inv-loop μ-loop
-loop-holds c = (search needs, search needs, tallying-none _ (c .args .groups .now) _, tallying-none _ (c .args .groups .now) _)
+loop-holds c = (omega arith, c .good .0 .1 .0 .1, tallying-none _ (c .args .groups .now) _, tallying-none _ (c .args .groups .now) _)
 
--- src/processes.rt:66:17
 mul-b : tie.Need-mul-b Inv-loop μ-loop
-mul-b c = search needs
+mul-b c = omega arith
 
--- src/processes.rt:66:17
 array-copy-out-b : tie.Need-array-copy-out-b Inv-loop μ-loop
-array-copy-out-b c = search needs
+array-copy-out-b c = omega arith
 
--- src/processes.rt:69:23
 mul-place : tie.Need-mul-place Inv-loop μ-loop
-mul-place c = search needs
+mul-place c = omega arith
 
--- src/processes.rt:69:23
 element-copy-out-place : tie.Need-element-copy-out-place Inv-loop μ-loop
-element-copy-out-place c = search needs
+element-copy-out-place c = omega arith
 
--- src/processes.rt:69:13
 place-requires : tie.Need-place-requires Inv-loop μ-loop
-place-requires c κs = search needs
+place-requires c κs = tt
 
--- src/processes.rt:70:44
 of-begin-requires : tie.Need-of-begin-requires Inv-loop μ-loop
-of-begin-requires c κs = search needs
+of-begin-requires c κs = tt
 
--- src/processes.rt:70:9
 note-requires : tie.Need-note-requires Inv-loop μ-loop
 note-requires c κs =
     let p = c .before .before .before .before .before .before .before in
     let t = p .loop .inv .2 in
     ((t .all-counts, t .all-firsts, tallying-room _ _ _ _ _ _ t (omega arith)), (omega (arith, p .before .pre .1 (p .loop .i)), c .of-begin .ensures .small))
 
--- src/processes.rt:71:42
 of-end-requires : tie.Need-of-end-requires Inv-loop μ-loop
-of-end-requires c κs = search needs
+of-end-requires c κs = tt
 
--- src/processes.rt:71:9
 note-requires-2 : tie.Need-note-requires-2 Inv-loop μ-loop
 note-requires-2 c κs =
     let p = c .before .before .before .before .before .before .before .before .before .before .before in
     let t = p .loop .inv .3 in
     ((t .all-counts, t .all-firsts, tallying-room _ _ _ _ _ _ t (omega arith)), (omega (arith, p .before .pre .1 (p .loop .i)), c .of-end .ensures .small))
 
--- src/processes.rt:72:9
 add-i : tie.Need-add-i Inv-loop μ-loop
-add-i c = search needs
+add-i c = omega arith
 
--- src/processes.rt:65:5
 loop-less : tie.Need-loop-less Inv-loop μ-loop
-loop-less c = search needs
+loop-less c = omega arith
 
--- src/processes.rt:65:5
 loop-again : tie.Need-loop-again Inv-loop μ-loop
 loop-again c =
-    let p = c .before .before .before .before .before .before .before .before .before .before .before .before in
+    let n = c .before .before .before .before in
+    let p = n .before .before .before .before .before .before .before .before in
     let s = p .before in
-    let a = s .args .t1 in
-    let l : p .loop .i < length a = omega arith in
-    let g = c .before .before .before .before .before .before .before .before .place in
-    let low : g .result < 384 = omega (arith, s .pre .1 (p .loop .i)) in
-    (omega arith, p .loop .inv .1,
-      tallying-more _ (s .args .groups .now) a (p .loop .i) _ _ (c .before .before .before .before .before .of-begin .result) (p .loop .inv .2) l (c .before .before .before .before .before .of-begin .ensures) (search needs) (g .result) (g .ensures) low _ _ (c .before .before .before .before .note .ensures .0) (c .before .before .before .before .note .ensures .1),
-      tallying-more _ (s .args .groups .now) a (p .loop .i) _ _ (c .before .of-end .result) (p .loop .inv .3) l (c .before .of-end .ensures) (search needs) (g .result) (g .ensures) low _ _ (c .note2 .ensures .0) (c .note2 .ensures .1))
+    let test = n .before .before .before .before .before .before .before .loop-test .taken in
+    let l : p .loop .i < length (s .args .t1) = omega (arith, test) in
+    let low : n .before .before .before .before .place .result < allNodes = omega (arith, n .before .before .before .before .place .ensures, s .pre .1 (p .loop .i)) in (
+      omega (arith, test),
+      p .loop .inv .1,
+      tallying-more _ (s .args .groups .now) (s .args .t1) (p .loop .i) _ _ (n .before .of-begin .result) (p .loop .inv .2) l
+          (n .before .of-begin .ensures) _ (n .before .before .before .before .place .ensures) low _ _ (n .note .ensures .0) (n .note .ensures .1),
+      tallying-more _ (s .args .groups .now) (s .args .t1) (p .loop .i) _ _ (c .before .of-end .result) (p .loop .inv .3) l
+          (c .before .of-end .ensures) _ (n .before .before .before .before .place .ensures) low _ _ (c .note2 .ensures .0) (c .note2 .ensures .1),
+    )
 
--- src/processes.rt:56:1
 returns : tie.Need-returns Inv-loop μ-loop
 returns c =
     let p = c .before in
@@ -100,6 +86,9 @@ returns c =
       begins = tallying-all _ _ _ _ _ _ _ e (p .loop .inv .2);
       ends = tallying-all _ _ _ _ _ _ _ e (p .loop .inv .3);
     }
+
+zz : ℕ
+zz = 0
 
 pub own-of-spec : {M : Type 1} → statement M
 own-of-spec =

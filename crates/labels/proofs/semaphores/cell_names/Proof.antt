@@ -1,16 +1,13 @@
-use Rattle.rules.specs.Names.{blockNames}
+-- `labels::semaphores::cell_names` meets its contract. Test by test. Assumes nothing.
 use borrow.Author.Tests.{ne-eqb, eq-eqb}
+use Rattle.rules.specs.Names.{blockNames}
 use Rattle.labels.proofs.semaphores.cell_names.Statement.{statement}
 use Rattle.labels.proofs.semaphores.cell_names.Tie as tie
-use Rattle.labels.proofs.semaphores.cell_names.Reads as reads
-use Rattle.labels.proofs.semaphores.cell_names.Lts as lts
 
--- src/semaphores.rt:35:9
 returns : tie.Need-returns
 unfolding blockNames
 returns c = simp (eq-eqb _ _ (c .if1 .taken))
 
--- src/semaphores.rt:31:1
 returns-2 : tie.Need-returns-2
 unfolding blockNames
 returns-2 c = simp (ne-eqb _ _ (c .if1 .left))

@@ -1,81 +1,60 @@
-use Rattle.rules.specs.Names.{blockNames}
+-- `labels::semaphores::instruction_names` meets its contract. Arm by arm. Assumes nothing.
 use borrow.Author.Needs.{needs}
+use Rattle.rules.specs.Names.{blockNames}
 use Rattle.labels.proofs.semaphores.instruction_names.Statement.{statement}
 use Rattle.labels.proofs.semaphores.instruction_names.Tie as tie
-use Rattle.labels.proofs.semaphores.instruction_names.Reads as reads
-use Rattle.labels.proofs.semaphores.instruction_names.Lts as lts
-use Rattle.labels.proofs.semaphores.exchange_names.Reads as exchange-names-reads
-use Rattle.labels.proofs.semaphores.expression_names.Reads as expression-names-reads
-use Rattle.labels.proofs.semaphores.update_names.Reads as update-names-reads
 
--- src/semaphores.rt:110:32
 enum-known-i : tie.Need-enum-known-i
-enum-known-i c = search needs
+enum-known-i c = c .match .keys1
 
--- src/semaphores.rt:110:41
 update-names-requires : tie.Need-update-names-requires
-update-names-requires c κs = search needs
+update-names-requires c κs = tt
 
--- src/semaphores.rt:111:31
 enum-known-i-2 : tie.Need-enum-known-i-2
-enum-known-i-2 c = search needs
+enum-known-i-2 c = c .match .keys2
 
--- src/semaphores.rt:111:40
 exchange-names-requires : tie.Need-exchange-names-requires
-exchange-names-requires c κs = search needs
+exchange-names-requires c κs = tt
 
--- src/semaphores.rt:112:32
 enum-told : tie.Need-enum-told
-enum-told c = search needs
+enum-told c = c .match .keys3
 
--- src/semaphores.rt:113:32
 enum-told-2 : tie.Need-enum-told-2
-enum-told-2 c = search needs
+enum-told-2 c = c .match .keys4
 
--- src/semaphores.rt:114:29
 enum-known-i-3 : tie.Need-enum-known-i-3
-enum-known-i-3 c = search needs
+enum-known-i-3 c = c .match .keys5
 
--- src/semaphores.rt:114:35
 expression-names-requires : tie.Need-expression-names-requires
-expression-names-requires c κs = search needs
+expression-names-requires c κs = tt
 
--- src/semaphores.rt:115:30
 enum-told-3 : tie.Need-enum-told-3
-enum-told-3 c = search needs
+enum-told-3 c = c .match .keys6
 
--- src/semaphores.rt:116:33
 enum-told-4 : tie.Need-enum-told-4
-enum-told-4 c = search needs
+enum-told-4 c = c .match .keys7
 
--- src/semaphores.rt:106:1
 returns : tie.Need-returns
 unfolding blockNames
 returns c = simp (c .update-names .ensures, c .before .before .i .given .1)
 
--- src/semaphores.rt:106:1
 returns-2 : tie.Need-returns-2
 unfolding blockNames
 returns-2 c = simp (c .exchange-names .ensures, c .before .before .i2 .given .1)
 
--- src/semaphores.rt:106:1
 returns-3 : tie.Need-returns-3
 returns-3 c = search needs
 
--- src/semaphores.rt:106:1
 returns-4 : tie.Need-returns-4
 returns-4 c = search needs
 
--- src/semaphores.rt:106:1
 returns-5 : tie.Need-returns-5
 unfolding blockNames
 returns-5 c = simp (c .expression-names .ensures, c .before .before .i3 .given .1)
 
--- src/semaphores.rt:106:1
 returns-6 : tie.Need-returns-6
 returns-6 c = search needs
 
--- src/semaphores.rt:106:1
 returns-7 : tie.Need-returns-7
 returns-7 c = search needs
 

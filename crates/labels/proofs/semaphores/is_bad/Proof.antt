@@ -1,19 +1,16 @@
-use Rattle.labels.proofs.Marking.{mark-at}
-use Prim.Native.Nat.{ℕ, _≤_, _-_}
+-- `labels::semaphores::is_bad` meets its contract. The loop's invariant: no variable that is passed is marked and named. Assumes nothing.
+use Prim.Native.Nat.{ℕ}
+use Prim.Native.Nat.{_≤_, _-_}
 use native.Mathlib.Omega.{arith}
 use mathlib.Core.Path.{_≡_, refl, sym, _∙_}
 use mathlib.Core.Bool.{false, _&&_}
 use lib.ListN.{getD}
 use Rattle.rules.specs.Base.{someBelow}
 use Rattle.rules.specs.Names.{blockNames}
+use Rattle.labels.proofs.Marking.{mark-at}
 use Rattle.labels.proofs.Programs.{someBelow-at, someBelow-more}
-use borrow.Author.Needs.{needs}
 use Rattle.labels.proofs.semaphores.is_bad.Statement.{statement}
 use Rattle.labels.proofs.semaphores.is_bad.Tie as tie
-use Rattle.labels.proofs.semaphores.is_bad.Reads as reads
-use Rattle.labels.proofs.semaphores.is_bad.Lts as lts
-use Rattle.labels.proofs.semaphores.clashes.Reads as clashes-reads
-use Rattle.laws.proofs.index.Reads as index-reads
 
 abbrev Inv-loop : tie.InvT-loop
 Inv-loop b table x₀ x = (x ≤ 32) × (someBelow (λ y. getD table y false && blockNames b y) x ≡ false)
@@ -21,24 +18,19 @@ Inv-loop b table x₀ x = (x ≤ 32) × (someBelow (λ y. getD table y false && 
 abbrev μ-loop : tie.MeasureT-loop
 μ-loop b table x₀ x = 32 - x
 
--- src/semaphores.rt:190:5
 loop-holds : tie.Need-loop-holds Inv-loop μ-loop
 unfolding someBelow
-loop-holds c = (search needs, refl)
+loop-holds c = (omega arith, refl)
 
--- src/semaphores.rt:191:13
 index-requires : tie.Need-index-requires Inv-loop μ-loop
-index-requires c κs = search needs
+index-requires c κs = tt
 
--- src/semaphores.rt:192:23
 element-copy-out-clashes : tie.Need-element-copy-out-clashes Inv-loop μ-loop
-element-copy-out-clashes c = search needs
+element-copy-out-clashes c = omega arith
 
--- src/semaphores.rt:192:12
 clashes-requires : tie.Need-clashes-requires Inv-loop μ-loop
-clashes-requires c κs = search needs
+clashes-requires c κs = tt
 
--- src/semaphores.rt:193:13
 returns : tie.Need-returns Inv-loop μ-loop
 returns c =
     let p = c .before .before .before in
@@ -47,29 +39,29 @@ returns c =
     (someBelow-at _ 32 (s .loop .x) (omega arith)
     (sym (mark-at (s .before .args .table .now) _ _ (blockNames (s .before .args .b) (s .loop .x)) _ (p .index .ensures .0) (c .before .clashes .ensures)) ∙ c .if1 .taken))
 
--- src/semaphores.rt:195:9
 add-x : tie.Need-add-x Inv-loop μ-loop
-add-x c = search needs
+add-x c = omega arith
 
--- src/semaphores.rt:190:5
 loop-less : tie.Need-loop-less Inv-loop μ-loop
-loop-less c = search needs
+loop-less c = omega arith
 
--- src/semaphores.rt:190:5
 loop-again : tie.Need-loop-again Inv-loop μ-loop
 loop-again c =
     let p = c .before .before .before in
-    let s = p .before .before in
-    (omega arith,
+    let s = p .before .before in (
+      omega arith,
       someBelow-more _ (s .loop .x) (s .loop .inv .1)
-      (sym (mark-at (s .before .args .table .now) _ _ (blockNames (s .before .args .b) (s .loop .x)) _ (p .index .ensures .0) (c .before .clashes .ensures)) ∙ c .if1 .left))
+          (sym (mark-at (s .before .args .table .now) _ _ (blockNames (s .before .args .b) (s .loop .x)) _ (p .index .ensures .0) (c .before .clashes .ensures)) ∙ c .if1 .left),
+    )
 
--- src/semaphores.rt:186:1
 returns-2 : tie.Need-returns-2 Inv-loop μ-loop
 returns-2 c =
     let p = c .before in
     let e : p .loop .x ≡ 32 = omega arith in
     sym (rw e at (p .loop .inv .1))
+
+zz : ℕ
+zz = 0
 
 pub is-bad-spec : {M : Type 1} → statement M
 is-bad-spec =

@@ -1,15 +1,15 @@
+-- `labels::semaphores::nine` meets its contract. The loop's invariant: no block that is passed is refused. Assumes nothing.
+use Prim.Native.Nat.{ℕ}
 use Prim.Native.Nat.{_-_}
-use mathlib.Core.Path.{sym, _∙_}
+use native.Mathlib.Omega.{arith}
+use mathlib.Core.Bool.{true, false}
+use lib.ListN.{take, getD}
 use Rattle.rules.specs.Labels.{bad9}
 use Rattle.labels.proofs.Marking.{bad9-is}
+use Rattle.labels.proofs.Programs.{blank}
 use Rattle.labels.proofs.Searching.{Passed, passed-none, passed-more, passed-found, passed-all}
-use borrow.Author.Needs.{needs}
 use Rattle.labels.proofs.semaphores.nine.Statement.{statement}
 use Rattle.labels.proofs.semaphores.nine.Tie as tie
-use Rattle.labels.proofs.semaphores.nine.Reads as reads
-use Rattle.labels.proofs.semaphores.nine.Lts as lts
-use Rattle.labels.proofs.semaphores.is_bad.Reads as is-bad-reads
-use Rattle.labels.proofs.semaphores.marks.Reads as marks-reads
 
 abbrev Inv-loop : tie.InvT-loop
 Inv-loop n blocks table i₀ i = Passed bad9 blocks n i
@@ -17,51 +17,50 @@ Inv-loop n blocks table i₀ i = Passed bad9 blocks n i
 abbrev μ-loop : tie.MeasureT-loop
 μ-loop n blocks table i₀ i = n - i
 
--- src/semaphores.rt:205:17
 marks-requires : tie.Need-marks-requires Inv-loop μ-loop
-marks-requires c κs = search needs
+marks-requires c κs = c .pre
 
--- src/semaphores.rt:207:5
 loop-holds : tie.Need-loop-holds Inv-loop μ-loop
-loop-holds c = passed-none _ _ _ (search needs) (c .before .pre)
+loop-holds c = passed-none bad9 (c .before .args .t1) (c .before .args .n) (c .before .good .0 .1 .0 .1) (c .before .pre)
 
--- src/semaphores.rt:208:17
 mul-b : tie.Need-mul-b Inv-loop μ-loop
-mul-b c = search needs
+mul-b c = omega arith
 
--- src/semaphores.rt:208:17
 array-copy-out-b : tie.Need-array-copy-out-b Inv-loop μ-loop
-array-copy-out-b c = search needs
+array-copy-out-b c = omega arith
 
--- src/semaphores.rt:209:12
 is-bad-requires : tie.Need-is-bad-requires Inv-loop μ-loop
-is-bad-requires c κs = search needs
+is-bad-requires c κs = tt
 
--- src/semaphores.rt:210:13
 returns : tie.Need-returns Inv-loop μ-loop
 returns c =
     let p = c .before .before .before .before .before in
-    passed-found _ (p .before .before .args .t1) _ (p .loop .i) (p .loop .inv) (c .before .before .before .before .loop-test .taken)
-    (sym (bad9-is _ (p .before .marks .result) _ (p .before .marks .ensures)) ∙ sym (c .before .is-bad .ensures) ∙ c .if1 .taken)
+    let s = p .before in
+    let a = s .before .args in
+    passed-found bad9 (a .t1) (a .n) (p .loop .i) (p .loop .inv) (c .before .before .before .before .loop-test .taken)
+    (bad9-is (take (a .n) (a .t1)) (s .marks .result) (getD (a .t1) (p .loop .i) blank) (c .before .is-bad .result) true (s .marks .ensures) (c .before .is-bad .ensures) (c .if1 .taken))
 
--- src/semaphores.rt:212:9
 add-i : tie.Need-add-i Inv-loop μ-loop
-add-i c = search needs
+add-i c = omega arith
 
--- src/semaphores.rt:207:5
 loop-less : tie.Need-loop-less Inv-loop μ-loop
-loop-less c = search needs
+loop-less c = omega arith
 
--- src/semaphores.rt:207:5
 loop-again : tie.Need-loop-again Inv-loop μ-loop
 loop-again c =
     let p = c .before .before .before .before .before in
-    passed-more _ (p .before .before .args .t1) _ (p .loop .i) (p .loop .inv) (c .before .before .before .before .loop-test .taken)
-    (sym (bad9-is _ (p .before .marks .result) _ (p .before .marks .ensures)) ∙ sym (c .before .is-bad .ensures) ∙ c .if1 .left)
+    let s = p .before in
+    let a = s .before .args in
+    passed-more bad9 (a .t1) (a .n) (p .loop .i) (p .loop .inv) (c .before .before .before .before .loop-test .taken)
+    (bad9-is (take (a .n) (a .t1)) (s .marks .result) (getD (a .t1) (p .loop .i) blank) (c .before .is-bad .result) false (s .marks .ensures) (c .before .is-bad .ensures) (c .if1 .left))
 
--- src/semaphores.rt:201:1
 returns-2 : tie.Need-returns-2 Inv-loop μ-loop
-returns-2 c = passed-all _ _ _ (c .before .loop .i) (c .before .loop .inv) (c .loop-test .left)
+returns-2 c =
+    let p = c .before in
+    passed-all bad9 (p .before .before .args .t1) (p .before .before .args .n) (p .loop .i) (p .loop .inv) (c .loop-test .left)
+
+zz : ℕ
+zz = 0
 
 pub nine-spec : {M : Type 1} → statement M
 nine-spec =

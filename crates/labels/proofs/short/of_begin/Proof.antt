@@ -1,44 +1,31 @@
-use borrow.Author.Needs.{needs}
+-- `labels::short::of_begin` meets its contract. Arm by arm. Assumes nothing.
 use Rattle.labels.proofs.short.of_begin.Statement.{statement}
 use Rattle.labels.proofs.short.of_begin.Tie as tie
-use Rattle.labels.proofs.short.of_begin.Reads as reads
-use Rattle.labels.proofs.short.of_begin.Lts as lts
-use Rattle.labels.proofs.short.none.Reads as none-reads
-use Rattle.labels.proofs.short.one.Reads as one-reads
 
--- src/short.rt:78:27
 enum-told : tie.Need-enum-told
-enum-told c = search needs
+enum-told c = c .match .keys1
 
--- src/short.rt:78:27
 none-requires : tie.Need-none-requires
-none-requires c κs = search needs
+none-requires c κs = tt
 
--- src/short.rt:79:35
 enum-told-2 : tie.Need-enum-told-2
-enum-told-2 c = search needs
+enum-told-2 c = c .match .keys2
 
--- src/short.rt:79:35
 none-requires-2 : tie.Need-none-requires-2
-none-requires-2 c κs = search needs
+none-requires-2 c κs = tt
 
--- src/short.rt:80:22
 enum-known-e : tie.Need-enum-known-e
-enum-known-e c = search needs
+enum-known-e c = c .match .keys3
 
--- src/short.rt:80:28
 one-requires : tie.Need-one-requires
-one-requires c κs = search needs
+one-requires c κs = tt
 
--- src/short.rt:74:1
 returns : tie.Need-returns
 returns c = simp (c .before .enum-told .given .1) (c .none .ensures)
 
--- src/short.rt:74:1
 returns-2 : tie.Need-returns-2
 returns-2 c = simp (c .before .enum-told2 .given .1) (c .none2 .ensures)
 
--- src/short.rt:74:1
 returns-3 : tie.Need-returns-3
 returns-3 c = simp (c .before .before .e .given .1) (c .one .ensures)
 

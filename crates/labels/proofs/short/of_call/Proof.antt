@@ -1,94 +1,73 @@
-use borrow.Author.Needs.{needs}
+-- `labels::short::of_call` meets its contract. Arm by arm. Assumes nothing.
+use Prim.Native.Nat.{ℕ}
 use Rattle.labels.proofs.short.of_call.Statement.{statement}
 use Rattle.labels.proofs.short.of_call.Tie as tie
-use Rattle.labels.proofs.short.of_call.Reads as reads
-use Rattle.labels.proofs.short.of_call.Lts as lts
-use Rattle.labels.proofs.short.none.Reads as none-reads
-use Rattle.labels.proofs.short.of_names.Reads as of-names-reads
 
--- src/short.rt:113:41
 enum-told : tie.Need-enum-told
-enum-told c = search needs
+enum-told c = c .match .keys1
 
--- src/short.rt:113:41
 none-requires : tie.Need-none-requires
-none-requires c κs = search needs
+none-requires c κs = tt
 
--- src/short.rt:114:40
 enum-told-2 : tie.Need-enum-told-2
-enum-told-2 c = search needs
+enum-told-2 c = c .match .keys2
 
--- src/short.rt:114:40
 none-requires-2 : tie.Need-none-requires-2
-none-requires-2 c κs = search needs
+none-requires-2 c κs = tt
 
--- src/short.rt:115:32
 enum-told-3 : tie.Need-enum-told-3
-enum-told-3 c = search needs
+enum-told-3 c = c .match .keys3
 
--- src/short.rt:115:32
 none-requires-3 : tie.Need-none-requires-3
-none-requires-3 c κs = search needs
+none-requires-3 c κs = tt
 
--- src/short.rt:116:32
 enum-told-4 : tie.Need-enum-told-4
-enum-told-4 c = search needs
+enum-told-4 c = c .match .keys4
 
--- src/short.rt:116:32
 none-requires-4 : tie.Need-none-requires-4
-none-requires-4 c κs = search needs
+none-requires-4 c κs = tt
 
--- src/short.rt:117:35
 enum-told-5 : tie.Need-enum-told-5
-enum-told-5 c = search needs
+enum-told-5 c = c .match .keys5
 
--- src/short.rt:117:35
 none-requires-5 : tie.Need-none-requires-5
-none-requires-5 c κs = search needs
+none-requires-5 c κs = tt
 
--- src/short.rt:118:30
 enum-told-6 : tie.Need-enum-told-6
-enum-told-6 c = search needs
+enum-told-6 c = c .match .keys6
 
--- src/short.rt:118:30
 none-requires-6 : tie.Need-none-requires-6
-none-requires-6 c κs = search needs
+none-requires-6 c κs = tt
 
--- src/short.rt:119:27
 enum-known-i : tie.Need-enum-known-i
-enum-known-i c = search needs
+enum-known-i c = c .match .keys7
 
--- src/short.rt:119:33
 of-names-requires : tie.Need-of-names-requires
-of-names-requires c κs = search needs
+of-names-requires c κs = tt
 
--- src/short.rt:109:1
 returns : tie.Need-returns
 returns c = simp (c .before .enum-told .given .1) (c .none .ensures)
 
--- src/short.rt:109:1
 returns-2 : tie.Need-returns-2
 returns-2 c = simp (c .before .enum-told2 .given .1) (c .none2 .ensures)
 
--- src/short.rt:109:1
 returns-3 : tie.Need-returns-3
 returns-3 c = simp (c .before .enum-told3 .given .1) (c .none3 .ensures)
 
--- src/short.rt:109:1
 returns-4 : tie.Need-returns-4
 returns-4 c = simp (c .before .enum-told4 .given .1) (c .none4 .ensures)
 
--- src/short.rt:109:1
 returns-5 : tie.Need-returns-5
 returns-5 c = simp (c .before .enum-told5 .given .1) (c .none5 .ensures)
 
--- src/short.rt:109:1
 returns-6 : tie.Need-returns-6
 returns-6 c = simp (c .before .enum-told6 .given .1) (c .none6 .ensures)
 
--- src/short.rt:109:1
 returns-7 : tie.Need-returns-7
 returns-7 c = simp (c .before .before .i .given .1) (c .of-names .ensures)
+
+zz : ℕ
+zz = 0
 
 pub of-call-spec : {M : Type 1} → statement M
 of-call-spec =
