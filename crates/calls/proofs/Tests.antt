@@ -2,7 +2,7 @@
 use mathlib.Core.Path.{_≡_, refl}
 use mathlib.Core.Bool.{Bool, true, false, _&&_, _||_}
 use mathlib.Core.Logic.{_⊎_, inl, inr}
-use Prim.Native.Nat.{ℕ, min, max}
+use Prim.Native.Nat.{ℕ, _≤_, min, max}
 use native.Mathlib.Omega.{arith}
 use Rattle.rules.specs.Value.{flag}
 
@@ -50,3 +50,7 @@ flag-one false h = absurd (omega arith)
 pub flag-other : (a : Bool) → (flag a ≡ 1 → ⊥) → a ≡ false
 flag-other true h = absurd (h refl)
 flag-other false h = refl
+
+pub flag-small : (a : Bool) → flag a ≤ 1
+flag-small true = omega arith
+flag-small false = omega arith

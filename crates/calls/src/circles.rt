@@ -1,9 +1,8 @@
 // Code 14, "a call names the label of its own process block, or one from which that block is reached through calls": a grid
-// has a place for each two blocks, 1 where the first reaches the second. It begins with what each call names, and then each
+// has a bit for each two blocks, 1 where the first reaches the second. It begins with what each call names, and then each
 // block in turn adds what is reached over it.
-use super::larger;
 ghost use mathlib.Core.Path.{_≡_};
-ghost use Prim.Native.Nat.{_<_, _≤_, min};
+ghost use Prim.Native.Nat.{_+_, _<_, _≤_, min};
 ghost use lib.ListN.{length};
 ghost use Rattle.rules.specs.Base.{lowest};
 ghost use Rattle.rules.specs.Format.{mostBlocks};
@@ -11,21 +10,37 @@ ghost use Rattle.rules.specs.Value.{flag};
 ghost use Rattle.rules.specs.Calls.{reachesOver, bad14};
 ghost use Rattle.laws.specs.CallTable.{callingFrom};
 ghost use Rattle.calls.specs.Table.{Tabled};
-ghost use Rattle.calls.specs.Grid.{places, RowCopied, RowDone, RowsDone, joined, added, Reaching};
+ghost use Rattle.calls.specs.Grid.{bits, words, bitOf, cell, rowOf, withRow, Word, RowDone, RowsDone, joined, added, Reaching};
 
-// A row has a place for each of 128 blocks.
-const ROW: usize = 128;
+// A row has a bit for each of 128 blocks, in two words.
+const BITS: usize = 64;
 
-const PLACES: usize = ROW * ROW;
+const WORDS: usize = 256;
 
-fn smaller(x: u8, y: u8) -> u8
+fn smaller(x: usize, y: usize) -> usize
     ensures { λ r. ⌜ r ≡ min x y ⌝ }
 {
     if x < y { x } else { y }
 }
 
+// Bit k of a word.
+fn bit(word: u64, k: usize) -> u64
+    requires { ⌜ k < bits ⌝ }
+    ensures { λ r. ⌜ r ≡ bitOf word k ⌝ }
+{
+    (word >> k) % 2
+}
+
+// The bit of blocks b and c.
+fn bit_at(grid: &[u64; WORDS], b: usize, c: usize) -> u64
+    requires { ⌜ (b < mostBlocks) × (c < mostBlocks) ⌝ }
+    ensures { λ r. ⌜ r ≡ cell (now (grid .entry)) b c ⌝ }
+{
+    bit(grid[2 * b + c / BITS], c % BITS)
+}
+
 // 1 where block b's call names the process block of block c, else 0.
-fn named(homes: &[u8], counts: &[u8], names: &[u8], n: usize, b: usize, c: usize) -> u8
+fn named(homes: &[u8], counts: &[u8], names: &[u8], n: usize, b: usize, c: usize) -> u64
     requires { ⌜ Tabled (now homes) (now counts) (now names) n ⌝ }
     requires { ⌜ (b < n) × (c < n) ⌝ }
     ensures { λ r. ⌜ r ≡ flag (reachesOver (callingFrom (now (homes .entry)) (now (counts .entry)) (now (names .entry)) n) 0 b c) ⌝ }
@@ -42,89 +57,86 @@ fn named(homes: &[u8], counts: &[u8], names: &[u8], n: usize, b: usize, c: usize
     0
 }
 
-// Row b: what block b's own call names.
-fn direct_row(
+// A part of row b, as many columns from a first one on: what block b's own call names. The last column comes in first.
+fn direct_word(
     homes: &[u8],
     counts: &[u8],
     names: &[u8],
     n: usize,
     b: usize,
-    grid: &mut [u8; PLACES],
-)
+    from: usize,
+    count: usize,
+) -> u64
     requires { ⌜ Tabled (now homes) (now counts) (now names) n ⌝ }
-    requires { ⌜ (b < n) × (length (now grid) ≡ places) ⌝ }
-    ensures { λ _. ⌜ RowDone (λ c. flag (reachesOver (callingFrom (now (homes .entry)) (now (counts .entry)) (now (names .entry)) n) 0 b c))
-        (now (grid .entry)) b n (now (grid .exit)) ⌝ }
+    requires { ⌜ (b < n) × (from + count ≤ n) × (count ≤ bits) ⌝ }
+    ensures { λ r. ⌜ Word (λ k. flag (reachesOver (callingFrom (now (homes .entry)) (now (counts .entry)) (now (names .entry)) n) 0 b (from + k)))
+        0 count r ⌝ }
 {
-    let mut c: usize = 0;
-    while c < n {
-        grid[b * ROW + c] = named(homes, counts, names, n, b, c);
-        c += 1;
+    let mut word: u64 = 0;
+    let mut k = count;
+    while 0 < k {
+        k -= 1;
+        word = 2 * word + named(homes, counts, names, n, b, from + k);
     }
+    word
+}
+
+// The two words of row b stored.
+fn store(grid: &mut [u64; WORDS], b: usize, low: u64, high: u64)
+    requires { ⌜ (b < mostBlocks) × (length (now grid) ≡ words) ⌝ }
+    ensures { λ _. ⌜ now (grid .exit) ≡ withRow (now (grid .entry)) b low high ⌝ }
+{
+    grid[2 * b] = low;
+    grid[2 * b + 1] = high;
 }
 
 // What each block's own call names.
-fn direct(homes: &[u8], counts: &[u8], names: &[u8], n: usize, grid: &mut [u8; PLACES])
+fn direct(homes: &[u8], counts: &[u8], names: &[u8], n: usize, grid: &mut [u64; WORDS])
     requires { ⌜ Tabled (now homes) (now counts) (now names) n ⌝ }
-    requires { ⌜ length (now grid) ≡ places ⌝ }
+    requires { ⌜ length (now grid) ≡ words ⌝ }
     ensures { λ _. ⌜ Reaching (callingFrom (now (homes .entry)) (now (counts .entry)) (now (names .entry)) n) n 0 (now (grid .exit)) ⌝ }
 {
+    let first = smaller(n, BITS);
     let mut b: usize = 0;
     while b < n {
-        direct_row(homes, counts, names, n, b, grid);
+        let low = direct_word(homes, counts, names, n, b, 0, first);
+        let high = direct_word(homes, counts, names, n, b, first, n - first);
+        store(grid, b, low, high);
         b += 1;
     }
 }
 
-// Row m by itself. (Read out of the grid while rows of the grid are written, it could change for all the compiler knows, and
-// would be joined place by place.)
-fn row_of(n: usize, m: usize, grid: &[u8; PLACES]) -> [u8; ROW]
-    requires { ⌜ (n ≤ mostBlocks) × (m < n) ⌝ }
-    ensures { λ r. ⌜ RowCopied (now (grid .entry)) m n r ⌝ }
-{
-    let mut row = [0u8; ROW];
-    let mut c: usize = 0;
-    while c < n {
-        row[c] = grid[m * ROW + c];
-        c += 1;
-    }
-    row
-}
-
 // Row b with what block m adds to it: its row, where block b reaches block m.
-fn onward_row(n: usize, m: usize, row: &[u8; ROW], b: usize, grid: &mut [u8; PLACES])
-    requires { ⌜ (n ≤ mostBlocks) × (m < n) × (b < n) × (length (now grid) ≡ places) ⌝ }
-    ensures { λ _. ⌜ RowDone (joined (now (row .entry)) (now (grid .entry)) m b) (now (grid .entry)) b n (now (grid .exit)) ⌝ }
+fn onward_row(m: usize, low: u64, high: u64, b: usize, grid: &mut [u64; WORDS])
+    requires { ⌜ (m < mostBlocks) × (b < mostBlocks) × (length (now grid) ≡ words) ⌝ }
+    ensures { λ _. ⌜ RowDone (joined (rowOf low high) (now (grid .entry)) m b) (now (grid .entry)) b mostBlocks (now (grid .exit)) ⌝ }
 {
-    let first = grid[b * ROW + m];
-    if first == 0 {
+    if bit_at(grid, b, m) == 0 {
         return;
     }
-    let mut c: usize = 0;
-    while c < n {
-        let old = grid[b * ROW + c];
-        grid[b * ROW + c] = larger(old, smaller(first, row[c]));
-        c += 1;
-    }
+    let old_low = grid[2 * b];
+    let old_high = grid[2 * b + 1];
+    store(grid, b, old_low | low, old_high | high);
 }
 
 // Every row with what block m adds to it.
-fn onward(n: usize, m: usize, grid: &mut [u8; PLACES])
-    requires { ⌜ (n ≤ mostBlocks) × (m < n) × (length (now grid) ≡ places) ⌝ }
+fn onward(n: usize, m: usize, grid: &mut [u64; WORDS])
+    requires { ⌜ (n ≤ mostBlocks) × (m < n) × (length (now grid) ≡ words) ⌝ }
     ensures { λ _. ⌜ RowsDone (added (now (grid .entry)) m) (now (grid .entry)) n n (now (grid .exit)) ⌝ }
 {
-    let row = row_of(n, m, grid);
+    let low = grid[2 * m];
+    let high = grid[2 * m + 1];
     let mut b: usize = 0;
     while b < n {
-        onward_row(n, m, &row, b, grid);
+        onward_row(m, low, high, b, grid);
         b += 1;
     }
 }
 
 // What each block reaches through calls.
-fn closed(homes: &[u8], counts: &[u8], names: &[u8], n: usize, grid: &mut [u8; PLACES])
+fn closed(homes: &[u8], counts: &[u8], names: &[u8], n: usize, grid: &mut [u64; WORDS])
     requires { ⌜ Tabled (now homes) (now counts) (now names) n ⌝ }
-    requires { ⌜ length (now grid) ≡ places ⌝ }
+    requires { ⌜ length (now grid) ≡ words ⌝ }
     ensures { λ _. ⌜ Reaching (callingFrom (now (homes .entry)) (now (counts .entry)) (now (names .entry)) n) n n (now (grid .exit)) ⌝ }
 {
     direct(homes, counts, names, n, grid);
@@ -140,11 +152,11 @@ pub fn fourteen(homes: &[u8], counts: &[u8], names: &[u8], n: usize) -> usize
     requires { ⌜ Tabled (now homes) (now counts) (now names) n ⌝ }
     ensures { λ r. ⌜ r ≡ lowest (bad14 (callingFrom (now (homes .entry)) (now (counts .entry)) (now (names .entry)) n)) n ⌝ }
 {
-    let mut grid = [0u8; PLACES];
+    let mut grid = [0u64; WORDS];
     closed(homes, counts, names, n, &mut grid);
     let mut b: usize = 0;
     while b < n {
-        if grid[b * ROW + b] == 1 {
+        if bit_at(&grid, b, b) == 1 {
             return b;
         }
         b += 1;

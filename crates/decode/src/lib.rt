@@ -39,17 +39,16 @@ fn no_block() -> Block
     }
 }
 
-// A place in an image fits a word.
-fn refused(code: u32, place: usize) -> Decoded
+// A place in an image fits a word. The blocks mean nothing: the caller's array goes on, so that no second one is made.
+fn refused(code: u32, place: usize, blocks: [Block; 128]) -> Decoded
     requires { ⌜ (1 ≤ code) × (place ≤ longest) ⌝ }
     ensures { λ r. ⌜ Refuses code place r ⌝ }
 {
-    let none = no_block();
     Decoded {
         code,
         place: place as u32,
         count: 0,
-        blocks: [none; 128],
+        blocks,
     }
 }
 
@@ -64,7 +63,7 @@ fn blocks_of(s: &[u8]) -> Decoded
     let mut at: usize = 0;
     while at < s.len() {
         if n == MOST_BLOCKS {
-            return refused(5, at);
+            return refused(5, at, blocks);
         }
         match block_at(s, Cursor { at }) {
             BlockRead::Got(b, c) => {
@@ -73,7 +72,7 @@ fn blocks_of(s: &[u8]) -> Decoded
                 at = c.at;
             }
             BlockRead::Bad(f) => {
-                return refused(f.code, f.place);
+                return refused(f.code, f.place, blocks);
             }
         }
     }
@@ -90,10 +89,10 @@ pub fn decode(s: &[u8]) -> Decoded
     ensures { λ r. ⌜ Shows (decoded (now (s .entry))) r ⌝ }
 {
     if s.len() == 0 {
-        return refused(1, 0);
+        return refused(1, 0, [no_block(); 128]);
     }
     if LONGEST < s.len() {
-        return refused(1, 0);
+        return refused(1, 0, [no_block(); 128]);
     }
     blocks_of(s)
 }

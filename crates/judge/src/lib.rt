@@ -6,7 +6,10 @@ ghost use lib.ListN.{take};
 ghost use Rattle.rules.specs.Base.{upFrom};
 ghost use Rattle.rules.specs.Labels.{home};
 ghost use Rattle.rules.specs.Judge.{judgedBlocks, judgement};
+ghost use Rattle.labels.specs.Counts.{BeginsOf};
+ghost use Rattle.labels.specs.Own.{ProcessesOf};
 ghost use Rattle.judge.specs.Parts.{judgedCalls, judgedNames};
+use labels::Processes;
 use rules::Block;
 use rules::Judgement;
 
@@ -38,43 +41,55 @@ fn judge_calls(blocks: [Block; 128], n: usize, homes: &[u8; 128]) -> Judgement
 }
 
 // Codes 12 and 13, and those after them.
-fn judge_names(blocks: [Block; 128], n: usize, homes: &[u8; 128]) -> Judgement
+fn judge_names(blocks: [Block; 128], n: usize, homes: &[u8; 128], begins: &[u16; 256]) -> Judgement
     requires { ⌜ (n ≤ 128) × (take n (now homes) ≡ map (home (take n blocks)) (upFrom 0 n)) ⌝ }
+    requires { ⌜ BeginsOf (take n blocks) (now begins) ⌝ }
     ensures { λ r. ⌜ r ≡ judgedNames (take n blocks) ⌝ }
 {
-    let unknown = labels::twelve(blocks, n);
+    let unknown = labels::twelve(blocks, n, begins);
     if unknown < n {
         return Judgement::Refused(12, place(unknown));
     }
-    if labels::thirteen(blocks, n) {
+    if labels::thirteen(begins) {
         return Judgement::Refused(13, 0);
     }
     judge_calls(blocks, n, homes)
 }
 
-// Codes 9 to 15 on decoded blocks, one code at a time.
-pub fn judge_blocks(blocks: [Block; 128], n: usize) -> Judgement
-    requires { ⌜ n ≤ 128 ⌝ }
+// Codes 9 to 15 on decoded blocks, one code at a time, with what was found of their process blocks. (Those are looked for before,
+// and not in here: all that this function holds would lie below them on the stack.)
+fn judge_labels(blocks: [Block; 128], n: usize, processes: Processes) -> Judgement
+    requires { ⌜ (n ≤ 128) × ProcessesOf (take n blocks) n processes ⌝ }
     ensures { λ r. ⌜ r ≡ judgedBlocks (take n blocks) ⌝ }
 {
     let semaphore = labels::nine(blocks, n);
     if semaphore < n {
         return Judgement::Refused(9, place(semaphore));
     }
-    let label = labels::ten(blocks, n);
+    let labelled = labels::ten(blocks, n);
+    let label = labelled.bad;
     if label < n {
         return Judgement::Refused(10, place(label));
     }
-    let processes = labels::process_blocks(blocks, n);
     let bad = processes.bad;
     if bad < n {
         return Judgement::Refused(11, place(bad));
     }
     let homes = processes.homes;
-    judge_names(blocks, n, &homes)
+    let begins = labelled.begins;
+    judge_names(blocks, n, &homes, &begins)
 }
 
-// Any bytes get exactly the answer of document 01.
+// The same for any blocks.
+pub fn judge_blocks(blocks: [Block; 128], n: usize) -> Judgement
+    requires { ⌜ n ≤ 128 ⌝ }
+    ensures { λ r. ⌜ r ≡ judgedBlocks (take n blocks) ⌝ }
+{
+    judge_labels(blocks, n, labels::process_blocks(blocks, n))
+}
+
+// Any bytes get exactly the answer of document 01. (A call of judge_blocks would do, at the price of one more copy of the blocks on
+// the stack; so would one variable for both calls, which would be kept beside d.)
 pub fn judge(image: &[u8]) -> Judgement
     ensures { λ r. ⌜ r ≡ judgement (now (image .entry)) ⌝ }
 {
@@ -83,7 +98,9 @@ pub fn judge(image: &[u8]) -> Judgement
     if code != 0 {
         return Judgement::Refused(code, d.place);
     }
-    let blocks = d.blocks;
     let n = d.count;
-    judge_blocks(blocks, n)
+    let all = d.blocks;
+    let processes = labels::process_blocks(all, n);
+    let blocks = d.blocks;
+    judge_labels(blocks, n, processes)
 }

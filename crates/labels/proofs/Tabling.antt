@@ -18,22 +18,21 @@ use Rattle.rules.specs.declared.Block.{Block}
 use Rattle.laws.specs.CallTable.{callsFrom}
 use Rattle.labels.specs.Calls.{places}
 use Rattle.labels.specs.declared.short.Few.{Few}
-use Rattle.labels.specs.declared.counts.Counts.{Counts}
 use Rattle.labels.specs.Few.{few, Lists}
-use Rattle.labels.specs.Counts.{CountsOf}
+use Rattle.labels.specs.Counts.{BeginsOf}
 use Rattle.labels.proofs.Programs.{blank, pick-le, getD-same, getD-set}
 
 -- ---- codes 12 and 13
-read-off : (program : List Block) (c : Counts) (b : Block) (f : Few) → CountsOf program c → Lists f (calledBy (b .instruction))
-    → some-of (λ l. eqb (getD (c .begins) l 0) 0) (few f) ≡ bad12 program b
+read-off : (program : List Block) (a : List ℕ) (b : Block) (f : Few) → BeginsOf program a → Lists f (calledBy (b .instruction))
+    → some-of (λ l. eqb (getD a l 0) 0) (few f) ≡ bad12 program b
 unfolding bad12
-read-off program c b f h l =
-    ap (some-of (λ l. eqb (getD (c .begins) l 0) 0)) (l .same)
-    ∙ ap (λ (p : ℕ → Bool). some-of p (calledBy (b .instruction))) (fun-ext (λ x. ap (λ (k : ℕ). eqb k 0) (h .begins .each x)))
+read-off program a b f h l =
+    ap (some-of (λ l. eqb (getD a l 0) 0)) (l .same)
+    ∙ ap (λ (p : ℕ → Bool). some-of p (calledBy (b .instruction))) (fun-ext (λ x. ap (λ (k : ℕ). eqb k 0) (h .each x)))
 
-pub bad12-is : (program : List Block) (c : Counts) (b : Block) (f : Few) (r v : Bool) → CountsOf program c → Lists f (calledBy (b .instruction))
-    → r ≡ some-of (λ l. eqb (getD (c .begins) l 0) 0) (few f) → r ≡ v → bad12 program b ≡ v
-bad12-is program c b f r v h l e q = sym (read-off program c b f h l) ∙ sym e ∙ q
+pub bad12-is : (program : List Block) (a : List ℕ) (b : Block) (f : Few) (r v : Bool) → BeginsOf program a → Lists f (calledBy (b .instruction))
+    → r ≡ some-of (λ l. eqb (getD a l 0) 0) (few f) → r ≡ v → bad12 program b ≡ v
+bad12-is program a b f r v h l e q = sym (read-off program a b f h l) ∙ sym e ∙ q
 
 pub no-begin : (a : List ℕ) (l x : ℕ) → l ≡ x → getD a l 0 ≡ 0 → eqb (getD a x 0) 0 ≡ true
 no-begin a l x h e = eq-eqb _ _ (ap (λ (k : ℕ). getD a k 0) (sym h) ∙ e)
@@ -41,9 +40,9 @@ no-begin a l x h e = eq-eqb _ _ (ap (λ (k : ℕ). getD a k 0) (sym h) ∙ e)
 pub some-begin : (a : List ℕ) (l x : ℕ) → l ≡ x → (getD a l 0 ≡ 0 → ⊥) → eqb (getD a x 0) 0 ≡ false
 some-begin a l x h e = ne-eqb _ _ (λ q. e (ap (λ (k : ℕ). getD a k 0) h ∙ q))
 
-pub bad13-is : (program : List Block) (c : Counts) → CountsOf program c → eqb (getD (c .begins) 0 0) 0 ≡ bad13 program
+pub bad13-is : (program : List Block) (a : List ℕ) → BeginsOf program a → eqb (getD a 0 0) 0 ≡ bad13 program
 unfolding bad13
-bad13-is program c h = ap (λ (k : ℕ). eqb k 0) (h .begins .each 0)
+bad13-is program a h = ap (λ (k : ℕ). eqb k 0) (h .each 0)
 
 -- ---- the table
 module _ {A : Type 0} where

@@ -5,11 +5,12 @@ use mathlib.Core.Bool.{Bool, not, _&&_}
 use mathlib.Core.List.{List, _++_}
 use lib.ListN.{length, getD}
 use lib.Dec.{eqb}
-use Rattle.rules.specs.Base.{times, each-of}
+use Rattle.rules.specs.Base.{times, each-of, lowest}
 use Rattle.rules.specs.Format.{mostBlocks, labels}
-use Rattle.rules.specs.Labels.{entryLabels, exitLabels, beginLabels, endLabels, count}
+use Rattle.rules.specs.Labels.{entryLabels, exitLabels, beginLabels, endLabels, count, blockOf, bad10}
 use Rattle.rules.specs.declared.Block.{Block}
 use Rattle.labels.specs.declared.counts.Counts.{Counts}
+use Rattle.labels.specs.declared.counts.Labelled.{Labelled}
 
 -- blocks have at most eight labels each
 abbrev pub most : ℕ
@@ -35,6 +36,14 @@ pub record CountsOf (program : List Block) (c : Counts) : Type 0 where
   pub begins : Counted (λ b. beginLabels (b .entry)) program (c .begins)
   pub ends : Counted (λ b. endLabels (b .exit)) program (c .ends)
 
+-- four tables as one
+abbrev pub countsIn : List ℕ → List ℕ → List ℕ → List ℕ → Counts
+countsIn entries exits begins ends = record { entries = entries; exits = exits; begins = begins; ends = ends }
+
+-- the begins alone
+abbrev pub BeginsOf : List Block → List ℕ → Type 0
+BeginsOf program a = Counted (λ b. beginLabels (b .entry)) program a
+
 -- one of each of the first two, and none of the others; of label l
 abbrev pub once : ℕ → ℕ → ℕ → ℕ → Bool
 once a b c d = eqb a 1 && (eqb b 1 && (eqb c 0 && eqb d 0))
@@ -48,3 +57,8 @@ badBy entries exits begins ends b =
     not
     (each-of (onceAt entries exits begins ends) (entryLabels (b .entry) ++ exitLabels (b .exit))
     && each-of (onceAt begins ends entries exits) (beginLabels (b .entry) ++ endLabels (b .exit)))
+
+-- what code 10 finds, and the begins that codes 12 and 13 want
+pub record LabelledOf (program : List Block) (n : ℕ) (r : Labelled) : Type 0 where
+  pub bad : r .bad ≡ lowest (λ b. bad10 program (blockOf program b)) n
+  pub begins : BeginsOf program (r .begins)

@@ -1,8 +1,8 @@
 // Codes 12 and 13, and the table of calls that codes 14 and 15 want.
-use crate::counts::counts_of;
 use crate::short;
 use crate::short::Few;
 use rules::Block;
+ghost use mathlib.Core.List.{List};
 ghost use mathlib.Core.Path.{_≡_};
 ghost use Prim.Native.Nat.{_+_, _≤_};
 ghost use lib.ListN.{length, take, getD};
@@ -12,6 +12,7 @@ ghost use Rattle.rules.specs.Base.{lowest, some-of};
 ghost use Rattle.rules.specs.Format.{mostBlocks};
 ghost use Rattle.rules.specs.Labels.{blockOf, bad12};
 ghost use Rattle.rules.specs.Calls.{bad13};
+ghost use Rattle.labels.specs.Counts.{BeginsOf};
 ghost use Rattle.labels.specs.Few.{few};
 ghost use Rattle.labels.specs.Calls.{places, CallsOf};
 
@@ -86,17 +87,15 @@ fn is_bad(begins: &[u16; 256], f: Few) -> bool
 }
 
 // The lowest block that is refused, or the number of blocks.
-pub fn twelve(blocks: [Block; 128], n: usize) -> usize
-    requires { ⌜ n ≤ mostBlocks ⌝ }
+pub fn twelve(blocks: [Block; 128], n: usize, begins: &[u16; 256]) -> usize
+    requires { ⌜ (n ≤ mostBlocks) × BeginsOf (take n blocks) (now begins) ⌝ }
     ensures { λ r. ⌜ r ≡ lowest (λ b. bad12 (take n blocks) (blockOf (take n blocks) b)) n ⌝ }
 {
-    let counts = counts_of(blocks, n);
-    let begins = counts.begins;
     let mut i: usize = 0;
     while i < n {
         let b = blocks[i];
         let instruction = b.instruction;
-        if is_bad(&begins, short::of_call(instruction)) {
+        if is_bad(begins, short::of_call(instruction)) {
             return i;
         }
         i += 1;
@@ -105,11 +104,8 @@ pub fn twelve(blocks: [Block; 128], n: usize) -> usize
 }
 
 // There is no `begin 0`.
-pub fn thirteen(blocks: [Block; 128], n: usize) -> bool
-    requires { ⌜ n ≤ mostBlocks ⌝ }
-    ensures { λ r. ⌜ r ≡ bad13 (take n blocks) ⌝ }
+pub fn thirteen(begins: &[u16; 256]) -> bool
+    ensures { λ r. ⌜ ((program : List Block) → BeginsOf program (now (begins .entry)) → r ≡ bad13 program) ⌝ }
 {
-    let counts = counts_of(blocks, n);
-    let begins = counts.begins;
     begins[0] == 0
 }

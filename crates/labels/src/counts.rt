@@ -9,7 +9,7 @@ ghost use Rattle.rules.specs.Base.{lowest, each-of};
 ghost use Rattle.rules.specs.Format.{mostBlocks, labels};
 ghost use Rattle.rules.specs.Labels.{blockOf, bad10};
 ghost use Rattle.labels.specs.Few.{few};
-ghost use Rattle.labels.specs.Counts.{most, Low, Raised, CountsOf, once, onceAt, badBy};
+ghost use Rattle.labels.specs.Counts.{most, Low, Raised, CountsOf, countsIn, once, onceAt, badBy, LabelledOf};
 
 // For each label, in how many entries, exits, begins and ends it stands.
 pub struct Counts {
@@ -17,6 +17,12 @@ pub struct Counts {
     pub exits: [u16; 256],
     pub begins: [u16; 256],
     pub ends: [u16; 256],
+}
+
+// The lowest block that is refused, or the number of blocks; and in how many begins each label stands.
+pub struct Labelled {
+    pub bad: usize,
+    pub begins: [u16; 256],
 }
 
 // One more for each of the labels.
@@ -121,22 +127,39 @@ fn is_bad(
 }
 
 // The lowest block that is refused, or the number of blocks.
-pub fn ten(blocks: [Block; 128], n: usize) -> usize
-    requires { ⌜ n ≤ mostBlocks ⌝ }
+fn first_bad(
+    blocks: [Block; 128],
+    n: usize,
+    entries: &[u16; 256],
+    exits: &[u16; 256],
+    begins: &[u16; 256],
+    ends: &[u16; 256],
+) -> usize
+    requires { ⌜ (n ≤ mostBlocks) × CountsOf (take n blocks) (countsIn (now entries) (now exits) (now begins) (now ends)) ⌝ }
     ensures { λ r. ⌜ r ≡ lowest (λ b. bad10 (take n blocks) (blockOf (take n blocks) b)) n ⌝ }
+{
+    let mut i: usize = 0;
+    while i < n {
+        let b = blocks[i];
+        if is_bad(b, entries, exits, begins, ends) {
+            return i;
+        }
+        i += 1;
+    }
+    i
+}
+
+// Code 10, and the begins counted. (Here the blocks are only handed on: a function that both looks into them and hands them on
+// would hold two copies.)
+pub fn ten(blocks: [Block; 128], n: usize) -> Labelled
+    requires { ⌜ n ≤ mostBlocks ⌝ }
+    ensures { λ r. ⌜ LabelledOf (take n blocks) n r ⌝ }
 {
     let counts = counts_of(blocks, n);
     let entries = counts.entries;
     let exits = counts.exits;
     let begins = counts.begins;
     let ends = counts.ends;
-    let mut i: usize = 0;
-    while i < n {
-        let b = blocks[i];
-        if is_bad(b, &entries, &exits, &begins, &ends) {
-            return i;
-        }
-        i += 1;
-    }
-    i
+    let bad = first_bad(blocks, n, &entries, &exits, &begins, &ends);
+    Labelled { bad, begins }
 }

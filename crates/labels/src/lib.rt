@@ -11,6 +11,7 @@ pub use calls::CallTable;
 pub use calls::call_table;
 pub use calls::thirteen;
 pub use calls::twelve;
+pub use counts::Labelled;
 pub use counts::ten;
 pub use groups::groups_of;
 pub use processes::Processes;

@@ -203,18 +203,26 @@ fn is_bad(b: Block, table: &[bool; 256]) -> bool
 }
 
 // The lowest block that is refused, or the number of blocks.
-pub fn nine(blocks: [Block; 128], n: usize) -> usize
-    requires { ⌜ n ≤ mostBlocks ⌝ }
+fn first_bad(blocks: [Block; 128], n: usize, table: &[bool; 256]) -> usize
+    requires { ⌜ (n ≤ mostBlocks) × ((x : ℕ) → getD (now table) x false ≡ semaphore (take n blocks) x) ⌝ }
     ensures { λ r. ⌜ r ≡ lowest (λ b. bad9 (take n blocks) (blockOf (take n blocks) b)) n ⌝ }
 {
-    let table = marks(blocks, n);
     let mut i: usize = 0;
     while i < n {
         let b = blocks[i];
-        if is_bad(b, &table) {
+        if is_bad(b, table) {
             return i;
         }
         i += 1;
     }
     i
+}
+
+// Code 9: the variables that some V or P names are marked first.
+pub fn nine(blocks: [Block; 128], n: usize) -> usize
+    requires { ⌜ n ≤ mostBlocks ⌝ }
+    ensures { λ r. ⌜ r ≡ lowest (λ b. bad9 (take n blocks) (blockOf (take n blocks) b)) n ⌝ }
+{
+    let table = marks(blocks, n);
+    first_bad(blocks, n, &table)
 }

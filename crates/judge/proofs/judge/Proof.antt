@@ -13,12 +13,24 @@ returns : tie.Need-returns
 unfolding judgement
 returns c = refused _ (c .before .decode .result) (c .before .decode .ensures) (c .if1 .taken)
 
-judge-blocks-requires : tie.Need-judge-blocks-requires
-judge-blocks-requires c κs = counted (decoded (c .before .before .before .before .args .image .now)) (c .before .before .decode .result) (c .before .before .decode .ensures) (c .before .if1 .left)
+process-blocks-requires : tie.Need-process-blocks-requires
+process-blocks-requires c κs =
+    let d = c .before .before in
+    counted (decoded (d .before .before .args .image .now)) (d .decode .result) (d .decode .ensures) (c .before .if1 .left)
+
+judge-labels-requires : tie.Need-judge-labels-requires
+judge-labels-requires c κs =
+    let p = c .before .before .before in
+    let d = p .before in
+    let few = counted (decoded (d .before .before .args .image .now)) (d .decode .result) (d .decode .ensures) (p .if1 .left) in
+    (few, c .before .process-blocks .ensures)
 
 returns-2 : tie.Need-returns-2
 unfolding judgement
-returns-2 c = judged _ (c .before .before .before .decode .result) (c .judge-blocks .result) (c .before .before .before .decode .ensures) (c .before .before .if1 .left) (c .judge-blocks .ensures)
+returns-2 c =
+    let p = c .before .before .before .before in
+    let d = p .before in
+    judged _ (d .decode .result) (c .judge-labels .result) (d .decode .ensures) (p .if1 .left) (c .judge-labels .ensures)
 
 pub judge-spec : {M : Type 1} → statement M
-judge-spec = tie.close (tie.spec decode-requires returns judge-blocks-requires returns-2)
+judge-spec = tie.close (tie.spec decode-requires returns process-blocks-requires judge-labels-requires returns-2)

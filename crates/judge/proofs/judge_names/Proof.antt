@@ -19,27 +19,32 @@ returns c =
     let a = c .before .before .before .args in
     let l : length (a .blocks) ≡ 128 = search needs in
     let k : length (take (a .n) (a .blocks)) ≡ a .n = taken (a .blocks) (a .n) (omega arith) in
-    ap (Judgement.Refused 12) (c .place .ensures) ∙ unknown (take (a .n) (a .blocks)) (a .n) k _ (c .before .before .twelve .ensures) (c .before .if1 .taken)
+    ap (Judgement.Refused 12) (c .place .ensures)
+    ∙ unknown (take (a .n) (a .blocks)) (a .n) k _ (c .before .before .twelve .ensures) (c .before .if1 .taken)
 
 thirteen-requires : tie.Need-thirteen-requires
 thirteen-requires c κs = search needs
 
 returns-2 : tie.Need-returns-2
 returns-2 c =
-    let a = c .before .before .before .before .args in
+    let s = c .before .before .before .before in
+    let a = s .args in
     let l : length (a .blocks) ≡ 128 = search needs in
     let k : length (take (a .n) (a .blocks)) ≡ a .n = taken (a .blocks) (a .n) (omega arith) in
-    no-main (take (a .n) (a .blocks)) (a .n) k _ (c .before .before .before .twelve .ensures) (c .before .before .if1 .left) (sym (c .before .thirteen .ensures) ∙ c .if2 .taken)
+    no-main (take (a .n) (a .blocks)) (a .n) k _ (c .before .before .before .twelve .ensures) (c .before .before .if1 .left)
+    (sym (c .before .thirteen .ensures (take (a .n) (a .blocks)) (s .pre .1)) ∙ c .if2 .taken)
 
 judge-calls-requires : tie.Need-judge-calls-requires
 judge-calls-requires c κs = search needs
 
 returns-3 : tie.Need-returns-3
 returns-3 c =
-    let a = c .before .before .before .before .before .args in
+    let s = c .before .before .before .before .before in
+    let a = s .args in
     let l : length (a .blocks) ≡ 128 = search needs in
     let k : length (take (a .n) (a .blocks)) ≡ a .n = taken (a .blocks) (a .n) (omega arith) in
-    named (take (a .n) (a .blocks)) (a .n) k _ _ (c .before .before .before .before .twelve .ensures) (c .before .before .before .if1 .left) (sym (c .before .before .thirteen .ensures) ∙ c .before .if2 .left) (c .judge-calls .ensures)
+    named (take (a .n) (a .blocks)) (a .n) k _ _ (c .before .before .before .before .twelve .ensures) (c .before .before .before .if1 .left)
+    (sym (c .before .before .thirteen .ensures (take (a .n) (a .blocks)) (s .pre .1)) ∙ c .before .if2 .left) (c .judge-calls .ensures)
 
 pub judge-names-spec : {M : Type 1} → statement M
 judge-names-spec =

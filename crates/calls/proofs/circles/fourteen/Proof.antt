@@ -1,5 +1,5 @@
 -- `fourteen` meets its contract. The loop's invariant: code 14 is given for none of the blocks passed. Assumes nothing.
-use mathlib.Core.Path.{_≡_, refl}
+use mathlib.Core.Path.{_≡_, refl, sym, _∙_}
 use mathlib.Core.Bool.{false}
 use Prim.Native.Nat.{ℕ, _<_, _≤_, _-_}
 use native.Mathlib.Omega.{arith}
@@ -25,20 +25,17 @@ loop-holds : tie.Need-loop-holds Inv-loop μ-loop
 loop-holds c =
     (omega arith, below-none _)
 
-mul-if1 : tie.Need-mul-if1 Inv-loop μ-loop
-mul-if1 c = omega arith
-
-add-if1 : tie.Need-add-if1 Inv-loop μ-loop
-add-if1 c = omega arith
-
-array-read-if1 : tie.Need-array-read-if1 Inv-loop μ-loop
-array-read-if1 c = omega arith
+bit-at-requires : tie.Need-bit-at-requires Inv-loop μ-loop
+bit-at-requires c κs =
+    let few = c .before .before .before .before .before .before .before .before .pre .few in
+    (omega arith, omega arith)
 
 returns : tie.Need-returns Inv-loop μ-loop
 returns c =
-    let l = c .before .before .loop in
+    let l = c .before .before .before .before .loop in
     lowest-is _ _ (l .b) (l .inv .0) (l .inv .1)
-    (λ h. on-circle _ _ _ _ _ (c .before .before .before .closed .ensures) (l .b) h (c .if1 .taken))
+    (λ h. on-circle _ _ _ _ _ (c .before .before .before .before .before .closed .ensures) (l .b) h
+    (sym (c .before .bit-at .ensures) ∙ c .if1 .taken))
 
 add-b : tie.Need-add-b Inv-loop μ-loop
 add-b c = omega arith
@@ -48,10 +45,11 @@ loop-less c = omega arith
 
 loop-again : tie.Need-loop-again Inv-loop μ-loop
 loop-again c =
-    let l = c .before .before .loop in (
+    let l = c .before .before .before .before .loop in (
       omega arith,
       below-more _ _ (l .inv .1)
-          (on-none _ _ _ _ _ (c .before .before .before .closed .ensures) (l .b) (omega arith) (c .if1 .left)),
+          (on-none _ _ _ _ _ (c .before .before .before .before .before .closed .ensures) (l .b) (omega arith)
+          (λ e. c .if1 .left (c .before .bit-at .ensures ∙ e))),
     )
 
 returns-2 : tie.Need-returns-2 Inv-loop μ-loop
@@ -67,9 +65,7 @@ fourteen-spec =
     μ-loop
     closed-requires
     loop-holds
-    mul-if1
-    add-if1
-    array-read-if1
+    bit-at-requires
     returns
     add-b
     loop-less

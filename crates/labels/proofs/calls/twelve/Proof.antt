@@ -2,8 +2,10 @@
 use Prim.Native.Nat.{ℕ}
 use Prim.Native.Nat.{_-_}
 use native.Mathlib.Omega.{arith}
+use borrow.Author.Needs.{needs}
 use mathlib.Core.Bool.{true, false}
-use lib.ListN.{take, getD}
+use mathlib.Core.Path.{_≡_}
+use lib.ListN.{length, take, getD}
 use Rattle.rules.specs.Labels.{bad12}
 use Rattle.labels.proofs.Tabling.{bad12-is}
 use Rattle.labels.proofs.Programs.{blank}
@@ -12,18 +14,15 @@ use Rattle.labels.proofs.calls.twelve.Statement.{statement}
 use Rattle.labels.proofs.calls.twelve.Tie as tie
 
 abbrev Inv-loop : tie.InvT-loop
-Inv-loop n blocks begins i₀ i = Passed bad12 blocks n i
+Inv-loop n begins blocks i₀ i = Passed bad12 blocks n i
 
 abbrev μ-loop : tie.MeasureT-loop
-μ-loop n blocks begins i₀ i = n - i
-
-counts-of-requires : tie.Need-counts-of-requires Inv-loop μ-loop
-counts-of-requires c κs = c .pre
+μ-loop n begins blocks i₀ i = n - i
 
 loop-holds : tie.Need-loop-holds Inv-loop μ-loop
 loop-holds c =
-    let s = c .before .before in
-    passed-none bad12 (s .args .t1) (s .args .n) (s .good .0 .1 .0 .1) (s .pre)
+    let l : length (c .args .t1) ≡ 128 = search needs in
+    passed-none bad12 (c .args .t1) (c .args .n) l (c .pre .0)
 
 mul-b : tie.Need-mul-b Inv-loop μ-loop
 mul-b c = omega arith
@@ -40,12 +39,12 @@ is-bad-requires c κs = c .of-call .ensures .small
 returns : tie.Need-returns Inv-loop μ-loop
 returns c =
     let o = c .before .before in
-    let p = o .before .before .before .before in
-    let s = p .before .before in
-    let a = s .before .args in
-    passed-found bad12 (a .t1) (a .n) (p .loop .i) (p .loop .inv) (o .before .before .before .loop-test .taken)
-    (bad12-is (take (a .n) (a .t1)) (s .counts-of .result) (getD (a .t1) (p .loop .i) blank) (o .of-call .result) (c .before .is-bad .result) true
-    (s .counts-of .ensures) (o .of-call .ensures) (c .before .is-bad .ensures) (c .if1 .taken))
+    let p = o .before .before .before in
+    let s = p .before in
+    let a = s .args in
+    passed-found bad12 (a .t1) (a .n) (p .loop .i) (p .loop .inv) (o .before .before .loop-test .taken)
+    (bad12-is (take (a .n) (a .t1)) (a .begins .now) (getD (a .t1) (p .loop .i) blank) (o .of-call .result) (c .before .is-bad .result) true
+    (s .pre .1) (o .of-call .ensures) (c .before .is-bad .ensures) (c .if1 .taken))
 
 add-i : tie.Need-add-i Inv-loop μ-loop
 add-i c = omega arith
@@ -56,17 +55,17 @@ loop-less c = omega arith
 loop-again : tie.Need-loop-again Inv-loop μ-loop
 loop-again c =
     let o = c .before .before in
-    let p = o .before .before .before .before in
-    let s = p .before .before in
-    let a = s .before .args in
-    passed-more bad12 (a .t1) (a .n) (p .loop .i) (p .loop .inv) (o .before .before .before .loop-test .taken)
-    (bad12-is (take (a .n) (a .t1)) (s .counts-of .result) (getD (a .t1) (p .loop .i) blank) (o .of-call .result) (c .before .is-bad .result) false
-    (s .counts-of .ensures) (o .of-call .ensures) (c .before .is-bad .ensures) (c .if1 .left))
+    let p = o .before .before .before in
+    let s = p .before in
+    let a = s .args in
+    passed-more bad12 (a .t1) (a .n) (p .loop .i) (p .loop .inv) (o .before .before .loop-test .taken)
+    (bad12-is (take (a .n) (a .t1)) (a .begins .now) (getD (a .t1) (p .loop .i) blank) (o .of-call .result) (c .before .is-bad .result) false
+    (s .pre .1) (o .of-call .ensures) (c .before .is-bad .ensures) (c .if1 .left))
 
 returns-2 : tie.Need-returns-2 Inv-loop μ-loop
 returns-2 c =
     let p = c .before in
-    let a = p .before .before .before .args in
+    let a = p .before .args in
     passed-all bad12 (a .t1) (a .n) (p .loop .i) (p .loop .inv) (c .loop-test .left)
 
 zz : ℕ
@@ -78,7 +77,6 @@ twelve-spec =
     (tie.spec
     Inv-loop
     μ-loop
-    counts-of-requires
     loop-holds
     mul-b
     array-copy-out-b

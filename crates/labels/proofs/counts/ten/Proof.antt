@@ -1,83 +1,19 @@
--- `labels::counts::ten` meets its contract. The loop's invariant: no block that is passed is refused. Assumes nothing.
-use Prim.Native.Nat.{ℕ}
-use Prim.Native.Nat.{_-_}
-use native.Mathlib.Omega.{arith}
-use mathlib.Core.Bool.{true, false}
-use lib.ListN.{take, getD}
-use Rattle.rules.specs.Labels.{bad10}
-use Rattle.labels.proofs.Counting.{bad10-is}
-use Rattle.labels.proofs.Programs.{blank}
-use Rattle.labels.proofs.Searching.{Passed, passed-none, passed-more, passed-found, passed-all}
+-- `labels::counts::ten` meets its contract: the counts are those that the search asks for. Assumes nothing.
 use Rattle.labels.proofs.counts.ten.Statement.{statement}
 use Rattle.labels.proofs.counts.ten.Tie as tie
 
-abbrev Inv-loop : tie.InvT-loop
-Inv-loop n blocks entries exits begins ends i₀ i = Passed bad10 blocks n i
-
-abbrev μ-loop : tie.MeasureT-loop
-μ-loop n blocks entries exits begins ends i₀ i = n - i
-
-counts-of-requires : tie.Need-counts-of-requires Inv-loop μ-loop
+counts-of-requires : tie.Need-counts-of-requires
 counts-of-requires c κs = c .pre
 
-loop-holds : tie.Need-loop-holds Inv-loop μ-loop
-loop-holds c =
-    let s = c .before .before .before .before .before in
-    passed-none bad10 (s .args .t1) (s .args .n) (s .good .0 .1 .0 .1) (s .pre)
+first-bad-requires : tie.Need-first-bad-requires
+first-bad-requires c κs =
+    let s = c .before .before .before .before .before .before .before .before in
+    (s .before .pre, s .counts-of .ensures)
 
-mul-b : tie.Need-mul-b Inv-loop μ-loop
-mul-b c = omega arith
-
-array-copy-out-b : tie.Need-array-copy-out-b Inv-loop μ-loop
-array-copy-out-b c = omega arith
-
-is-bad-requires : tie.Need-is-bad-requires Inv-loop μ-loop
-is-bad-requires c κs = tt
-
-returns : tie.Need-returns Inv-loop μ-loop
+returns : tie.Need-returns
 returns c =
-    let p = c .before .before .before .before .before .before .before .before in
-    let s = p .before .before .before .before .before in
-    let a = s .before .args in
-    passed-found bad10 (a .t1) (a .n) (p .loop .i) (p .loop .inv) (c .before .before .before .before .before .before .before .loop-test .taken)
-    (bad10-is (take (a .n) (a .t1)) (s .counts-of .result) (getD (a .t1) (p .loop .i) blank) (c .before .is-bad .result) true (s .counts-of .ensures) (c .before .is-bad .ensures) (c .if1 .taken))
-
-add-i : tie.Need-add-i Inv-loop μ-loop
-add-i c = omega arith
-
-loop-less : tie.Need-loop-less Inv-loop μ-loop
-loop-less c = omega arith
-
-loop-again : tie.Need-loop-again Inv-loop μ-loop
-loop-again c =
-    let p = c .before .before .before .before .before .before .before .before in
-    let s = p .before .before .before .before .before in
-    let a = s .before .args in
-    passed-more bad10 (a .t1) (a .n) (p .loop .i) (p .loop .inv) (c .before .before .before .before .before .before .before .loop-test .taken)
-    (bad10-is (take (a .n) (a .t1)) (s .counts-of .result) (getD (a .t1) (p .loop .i) blank) (c .before .is-bad .result) false (s .counts-of .ensures) (c .before .is-bad .ensures) (c .if1 .left))
-
-returns-2 : tie.Need-returns-2 Inv-loop μ-loop
-returns-2 c =
-    let p = c .before in
-    let a = p .before .before .before .before .before .before .args in
-    passed-all bad10 (a .t1) (a .n) (p .loop .i) (p .loop .inv) (c .loop-test .left)
-
-zz : ℕ
-zz = 0
+    let s = c .before .before .before .before .before .before .before .before .before in
+    record { bad = c .first-bad .ensures; begins = s .counts-of .ensures .begins }
 
 pub ten-spec : {M : Type 1} → statement M
-ten-spec =
-    tie.close
-    (tie.spec
-    Inv-loop
-    μ-loop
-    counts-of-requires
-    loop-holds
-    mul-b
-    array-copy-out-b
-    is-bad-requires
-    returns
-    add-i
-    loop-less
-    loop-again
-    returns-2)
+ten-spec = tie.close (tie.spec counts-of-requires first-bad-requires returns)

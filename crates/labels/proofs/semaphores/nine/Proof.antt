@@ -1,80 +1,15 @@
--- `labels::semaphores::nine` meets its contract. The loop's invariant: no block that is passed is refused. Assumes nothing.
-use Prim.Native.Nat.{ℕ}
-use Prim.Native.Nat.{_-_}
-use native.Mathlib.Omega.{arith}
-use mathlib.Core.Bool.{true, false}
-use lib.ListN.{take, getD}
-use Rattle.rules.specs.Labels.{bad9}
-use Rattle.labels.proofs.Marking.{bad9-is}
-use Rattle.labels.proofs.Programs.{blank}
-use Rattle.labels.proofs.Searching.{Passed, passed-none, passed-more, passed-found, passed-all}
+-- `labels::semaphores::nine` meets its contract: the marks are those that the search asks for. Assumes nothing.
 use Rattle.labels.proofs.semaphores.nine.Statement.{statement}
 use Rattle.labels.proofs.semaphores.nine.Tie as tie
 
-abbrev Inv-loop : tie.InvT-loop
-Inv-loop n blocks table i₀ i = Passed bad9 blocks n i
-
-abbrev μ-loop : tie.MeasureT-loop
-μ-loop n blocks table i₀ i = n - i
-
-marks-requires : tie.Need-marks-requires Inv-loop μ-loop
+marks-requires : tie.Need-marks-requires
 marks-requires c κs = c .pre
 
-loop-holds : tie.Need-loop-holds Inv-loop μ-loop
-loop-holds c = passed-none bad9 (c .before .args .t1) (c .before .args .n) (c .before .good .0 .1 .0 .1) (c .before .pre)
+first-bad-requires : tie.Need-first-bad-requires
+first-bad-requires c κs = (c .before .before .pre, c .before .marks .ensures)
 
-mul-b : tie.Need-mul-b Inv-loop μ-loop
-mul-b c = omega arith
-
-array-copy-out-b : tie.Need-array-copy-out-b Inv-loop μ-loop
-array-copy-out-b c = omega arith
-
-is-bad-requires : tie.Need-is-bad-requires Inv-loop μ-loop
-is-bad-requires c κs = tt
-
-returns : tie.Need-returns Inv-loop μ-loop
-returns c =
-    let p = c .before .before .before .before .before in
-    let s = p .before in
-    let a = s .before .args in
-    passed-found bad9 (a .t1) (a .n) (p .loop .i) (p .loop .inv) (c .before .before .before .before .loop-test .taken)
-    (bad9-is (take (a .n) (a .t1)) (s .marks .result) (getD (a .t1) (p .loop .i) blank) (c .before .is-bad .result) true (s .marks .ensures) (c .before .is-bad .ensures) (c .if1 .taken))
-
-add-i : tie.Need-add-i Inv-loop μ-loop
-add-i c = omega arith
-
-loop-less : tie.Need-loop-less Inv-loop μ-loop
-loop-less c = omega arith
-
-loop-again : tie.Need-loop-again Inv-loop μ-loop
-loop-again c =
-    let p = c .before .before .before .before .before in
-    let s = p .before in
-    let a = s .before .args in
-    passed-more bad9 (a .t1) (a .n) (p .loop .i) (p .loop .inv) (c .before .before .before .before .loop-test .taken)
-    (bad9-is (take (a .n) (a .t1)) (s .marks .result) (getD (a .t1) (p .loop .i) blank) (c .before .is-bad .result) false (s .marks .ensures) (c .before .is-bad .ensures) (c .if1 .left))
-
-returns-2 : tie.Need-returns-2 Inv-loop μ-loop
-returns-2 c =
-    let p = c .before in
-    passed-all bad9 (p .before .before .args .t1) (p .before .before .args .n) (p .loop .i) (p .loop .inv) (c .loop-test .left)
-
-zz : ℕ
-zz = 0
+returns : tie.Need-returns
+returns c = c .first-bad .ensures
 
 pub nine-spec : {M : Type 1} → statement M
-nine-spec =
-    tie.close
-    (tie.spec
-    Inv-loop
-    μ-loop
-    marks-requires
-    loop-holds
-    mul-b
-    array-copy-out-b
-    is-bad-requires
-    returns
-    add-i
-    loop-less
-    loop-again
-    returns-2)
+nine-spec = tie.close (tie.spec marks-requires first-bad-requires returns)
