@@ -9,7 +9,7 @@ ARCHIVE := target/staticlib/libtillerwrap.a
 STRICT := -Wall -Wextra -Werror -pedantic -Iinclude
 CLIENT := docs/src/client/client.c
 
-.PHONY: example example-test independent independent-test archive client-test compare compare-test bench test
+.PHONY: example example-test independent independent-test archive client-test compare compare-test wrong-rules-test bench test
 
 example: independent
 	cd examples/worked && $(WALK) < commands
@@ -39,6 +39,10 @@ compare: archive
 
 compare-test: compare
 	target/compare/release/compare 1 200000
+
+# Five wrong rules, each in a copy of the crates: the theorems must refuse them.
+wrong-rules-test:
+	docs/src/wrong-rules/run
 
 bench: compare
 	target/compare/release/compare bench

@@ -29,12 +29,19 @@ pub data Chain (A : Annotation) : Node → Node → Type 0 where
   edge : {v w : Node} (r : ℕ) → anyEdge A (node v) r w → Chain A v w
   onward : {u v w : Node} → Chain A u v → Chain A v w → Chain A u w
 
+-- definition 1, condition 2: edges are between the annotation's own nodes (or come from the start mark)
+pub record Whole (A : Annotation) : Type 0 where
+  pub sources : (v : Node) (r : ℕ) (w : Node) → anyEdge A (node v) r w → A .vertex v
+  pub targets : (s : Source) (r : ℕ) (w : Node) → anyEdge A s r w → A .vertex w
+
 -- definition 1, its five conditions
 pub record IsDag (A : Annotation) : Type 0 where
   pub numbered : (p n k : ℕ) → A .vertex (nodeAt p n) → k ≤ n → A .vertex (nodeAt p k)
+  pub between : Whole A
   pub one-source : (s t : Source) (r : ℕ) (v : Node) → anyEdge A s r v → anyEdge A t r v → s ≡ t
   pub apart : (s : Source) (r : ℕ) (v : Node) → A .readEdge s r v → A .writeEdge s r v → ⊥
   pub acyclic : (v : Node) → Chain A v v → ⊥
+  pub finite : (all : List Node) × ((v : Node) → A .vertex v → List·Memᴰ v all)
   pub written : (u v : Node) (r : ℕ) → A .writeEdge (node u) r v → (s : Source) × A .writeEdge s r u
   pub one-writer : (s : Source) (r : ℕ) (v w : Node) → A .writeEdge s r v → A .writeEdge s r w → v ≡ w
 

@@ -40,7 +40,7 @@ use Rattle.theorems.specs.Children.{Tree, Childless, puts, kids, outside
 use Rattle.theorems.specs.Waiting.{childless-of, no-kids, kids-none, no-children, some-children, some-kids, none-wait, all-there, there-all, move-puts}
 use Rattle.theorems.specs.Forward.{Configuration, configurationOf, entryOf, stepOf, Well, begin-test, standing-exit, few-labels, same-configuration}
 
-entry-from : (m : List ℕ) (e : Entry) → IsFrom e → entryPlace m e ≡ made (place (fromLabel e) run)
+pub entry-from : (m : List ℕ) (e : Entry) → IsFrom e → entryPlace m e ≡ made (place (fromLabel e) run)
 unfolding entryPlace
 entry-from m (Entry.From l) h = refl
 entry-from m (Entry.Either l k e) h = absurd h
@@ -137,7 +137,7 @@ module _ (program : List Block) (S : Sound program) where
         subst (Unstepped m p) (made-inj unmerged m′ (w .1)) (merge-moves n free c)
 
     -- what a process with children stands at
-    at-call : hasKids (real program S) (kids R p) ≡ true → (calls program (exitBlock program here) ≡ true) × (here .stage ≢ begin)
+    pub at-call : hasKids (real program S) (kids R p) ≡ true → (calls program (exitBlock program here) ≡ true) × (here .stage ≢ begin)
     at-call has =
         let F = well .family p has in
         let at : here ≡ outOf program (F .b) = some-inj here (outOf program (F .b)) (sym live ∙ F .at-out) in

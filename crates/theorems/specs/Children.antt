@@ -89,7 +89,7 @@ unfolding childRows
 child-length p stage i [] = refl
 child-length p stage i (l ∷ ls) = ap suc (child-length p stage (suc i) ls)
 
-new-kid : (p stage : ℕ) (ls : List ℕ) (x : ℕ) → isKid p x ≡ true → standing (childRows p stage 1 ls) x ≡ onto (λ l. place l stage) (nth ls (x % 16))
+pub new-kid : (p stage : ℕ) (ls : List ℕ) (x : ℕ) → isKid p x ≡ true → standing (childRows p stage 1 ls) x ≡ onto (λ l. place l stage) (nth ls (x % 16))
 new-kid p stage ls x h = go (x % 16) refl
   where
     f : (1 ≤ x % 16) × (x % 16 ≤ 8) × (x / 16 ≡ p)
@@ -101,7 +101,7 @@ new-kid p stage ls x h = go (x % 16) refl
         let z : child p (1 + k) ≡ x = omega (arith, f .2, e) in
         subst (λ (y : ℕ). standing (childRows p stage 1 ls) y ≡ onto (λ l. place l stage) (getElem? ls k)) z (child-at p stage 1 ls k)
 
-new-other : (p stage : ℕ) (ls : List ℕ) (x : ℕ) → length ls ≤ 8 → isKid p x ≡ false → standing (childRows p stage 1 ls) x ≡ none
+pub new-other : (p stage : ℕ) (ls : List ℕ) (x : ℕ) → length ls ≤ 8 → isKid p x ≡ false → standing (childRows p stage 1 ls) x ≡ none
 new-other p stage ls x few h = go (bool-cases (ltb x (child p 1))) (bool-cases (leb (child p (1 + length ls)) x))
   where
     go :
@@ -118,7 +118,7 @@ new-other p stage ls x few h = go (bool-cases (ltb x (child p 1))) (bool-cases (
         absurd (true-false (true-and (slot (x % 16)) (eqb (x / 16) p) (slot-of (x % 16) r₁ r₂) (eqb-same (x / 16) p d)) h)
 
 -- ---- putting rows in
-after-none : (o : Option Place) → first-of o none ≡ o
+pub after-none : (o : Option Place) → first-of o none ≡ o
 after-none none = refl
 after-none (some a) = refl
 

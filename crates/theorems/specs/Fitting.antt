@@ -18,8 +18,7 @@ use Rattle.theory.specs.Shapes.{footprints}
 use Rattle.theory.specs.Family.{Family, OfLabel, Ok}
 use Rattle.theory.specs.Machine.{mark, named}
 use Rattle.theory.specs.Started.{bare}
-use Rattle.theory.specs.Counting.{AllOf, Distinct}
-use Rattle.theory.specs.Peak.{Hangs, room}
+use Rattle.theory.specs.Peak.{Hangs}
 use Rattle.theory.specs.Optional.{onto, slot-of}
 use Rattle.rules.specs.Base.{pick, each-of, upFrom, alike}
 use Rattle.rules.specs.Format.{main}
@@ -33,9 +32,9 @@ use Rattle.theorems.specs.Lists.{pick-true, pick-false}
 use Rattle.theorems.specs.Memory.{Fine}
 use Rattle.theorems.specs.Parts.{calls, outOf, labelOf, homeOf, Standing}
 use Rattle.theorems.specs.Program.{Sound, real, exit-some, some-exit, home-outer, home-run}
-use Rattle.theorems.specs.Levels.{peakIn, peak-pos, peak-call, main-peak}
-use Rattle.theorems.specs.Tables.{rowAt, Above, Sorted, of-sorted, standing-here, standing-past, standing-low, standing-none, standing-each, none-empty}
+use Rattle.theorems.specs.Tables.{rowAt, Sorted, of-sorted, standing-here, standing-past, standing-low, standing-none, standing-each, none-empty}
 use Rattle.theorems.specs.Children.{kids}
+use Rattle.theorems.specs.Room.{rows-room}
 use Rattle.theorems.specs.Waiting.{kids-kid, children-kid, children-some, children-sorted, some-children}
 use Rattle.theorems.specs.Forward.{configurationOf, entryOf, Well, ahead, few-labels}
 use Rattle.theorems.specs.Backward.{behind}
@@ -48,7 +47,7 @@ unfolding alike
 alike-same [] = refl
 alike-same (x ∷ l) = true-and (eqb x x) (alike l l) (eqb-same x x refl) (alike-same l)
 
-abbrev Live : Option Place → Type 0
+abbrev pub Live : Option Place → Type 0
 Live o = (a : Place) × (o ≡ some a)
 
 -- sorted rows that stand just from a on, n of them, have the identifiers a, a + 1, ..
@@ -94,6 +93,25 @@ row-by-row (r ∷ rows) a (suc n) s in-range live =
     rest x h k =
         let l = live x (omega arith) k in
         (l .0, sym (standing-past r rows x (λ e. omega (arith, e, first, h))) ∙ l .1)
+
+-- the labels of a list, by number
+pub nth-in : (ls : List ℕ) (i l : ℕ) → nth ls i ≡ some l → (1 ≤ i) × (i ≤ length ls)
+nth-in ls zero l e = absurd (none-some e)
+nth-in ls (suc i) l e = (omega arith, go ls i e)
+  where
+    go : (ls : List ℕ) (i : ℕ) → getElem? ls i ≡ some l → suc i ≤ length ls
+    go [] i e = absurd (none-some e)
+    go (k ∷ ls) zero e = omega arith
+    go (k ∷ ls) (suc i) e = omega (arith, go ls i e)
+
+in-nth : (ls : List ℕ) (i : ℕ) → 1 ≤ i → i ≤ length ls → (l : ℕ) × (nth ls i ≡ some l)
+in-nth ls zero lo hi = absurd (omega arith)
+in-nth ls (suc i) lo hi = go ls i (omega arith)
+  where
+    go : (ls : List ℕ) (i : ℕ) → i < length ls → (l : ℕ) × (getElem? ls i ≡ some l)
+    go [] i h = absurd (omega arith)
+    go (k ∷ ls) zero h = (k, refl)
+    go (k ∷ ls) (suc i) h = go ls i (omega arith)
 
 -- ---- the newest entry of a history
 newest-none :
@@ -177,25 +195,6 @@ module _ (program : List Block) (S : Sound program) where
   out-called : (b : ℕ) → calls program b ≡ true → calledAt program (outOf program b) ≡ called program b
   unfolding calledAt
   out-called b c = ap (called program) (exit-some program S (outOf program b) b (real program S .out-exit b c) .1)
-
-  -- the labels of a list, by number
-  nth-in : (ls : List ℕ) (i l : ℕ) → nth ls i ≡ some l → (1 ≤ i) × (i ≤ length ls)
-  nth-in ls zero l e = absurd (none-some e)
-  nth-in ls (suc i) l e = (omega arith, go ls i e)
-    where
-      go : (ls : List ℕ) (i : ℕ) → getElem? ls i ≡ some l → suc i ≤ length ls
-      go [] i e = absurd (none-some e)
-      go (k ∷ ls) zero e = omega arith
-      go (k ∷ ls) (suc i) e = omega (arith, go ls i e)
-
-  in-nth : (ls : List ℕ) (i : ℕ) → 1 ≤ i → i ≤ length ls → (l : ℕ) × (nth ls i ≡ some l)
-  in-nth ls zero lo hi = absurd (omega arith)
-  in-nth ls (suc i) lo hi = go ls i (omega arith)
-    where
-      go : (ls : List ℕ) (i : ℕ) → i < length ls → (l : ℕ) × (getElem? ls i ≡ some l)
-      go [] i h = absurd (omega arith)
-      go (k ∷ ls) zero h = (k, refl)
-      go (k ∷ ls) (suc i) h = go ls i (omega arith)
 
   module _ (memory : List ℕ) (fine : Fine memory) (m : Machine) (r : Reached program S memory fine m) where
     abbrev T : ℕ → Option Place
@@ -346,42 +345,5 @@ module _ (program : List Block) (S : Sound program) where
         (true-and (each-of (rowFits program m) (m .rows)) (each-of (keptFits program) (m .history))
         (standing-each (rowFits program m) (m .rows) (r .ordered) row-fits) (reached-kept program S memory fine m r)))
 
-    -- ---- how many rows
-    live-rows : (rows : List Process) → Sorted rows → AllOf (λ x. standing rows x ≡ none → ⊥) (map (λ q. q .identifier) rows)
-    live-rows rows s = go rows rows s (λ x h. h)
-      where
-        go :
-            (all rows : List Process) → Sorted rows → ((x : ℕ) → (standing rows x ≡ none → ⊥) → standing all x ≡ none → ⊥) →
-            AllOf (λ x. standing all x ≡ none → ⊥) (map (λ q. q .identifier) rows)
-        go all [] s up = tt
-        go all (q ∷ rows) s up = (
-          up (q .identifier) (λ e. none-some (sym e ∙ standing-here q rows (q .identifier) refl)),
-          go all rows (s .1) (λ x h. up x (λ e. later x h (ℕ-discrete (q .identifier) x) e)),
-        )
-          where
-            later : (x : ℕ) → (standing rows x ≡ none → ⊥) → Dec (q .identifier ≡ x) → standing (q ∷ rows) x ≡ none → ⊥
-            later x h (yes d) e = none-some (sym e ∙ standing-here q rows x d)
-            later x h (no d) e = h (sym (standing-past q rows x d) ∙ e)
-
-    apart-rows : (rows : List Process) → Sorted rows → Distinct (map (λ q. q .identifier) rows)
-    apart-rows [] s = tt
-    apart-rows (q ∷ rows) s = (go (q .identifier) rows (s .0), apart-rows rows (s .1))
-      where
-        go : (x : ℕ) (rows : List Process) → Above x rows → AllOf (λ y. y ≢ x) (map (λ q. q .identifier) rows)
-        go x [] a = tt
-        go x (p ∷ rows) a = ((λ e. omega (arith, a .0, e)), go x rows (a .1))
-
-    mapped-length : (rows : List Process) → length (map (λ q. q .identifier) rows) ≡ length rows
-    mapped-length [] = refl
-    mapped-length (q ∷ rows) = ap suc (mapped-length rows)
-
     pub reached-room : length (m .rows) ≤ mostRows
-    reached-room =
-        let b =
-        room (real program S) (peakIn program S) (peak-pos program S) (peak-call program S) T ok H (map (λ q. q .identifier) (m .rows))
-        (live-rows (m .rows) (r .ordered)) (apart-rows (m .rows) (r .ordered)) in
-        let e : peakIn program S (homeOf program (place main begin)) ≡ peakIn program S main =
-        ap (peakIn program S) (home-outer program S (place main begin) (inl refl)) in
-        let l = mapped-length (m .rows) in
-        let p = main-peak program S in
-        omega (arith, b, e, l, p)
+    reached-room = rows-room program S (m .rows) (r .ordered) ok H

@@ -51,7 +51,7 @@ abbrev pub stepOf : ℕ → ℕ → Kept
 stepOf p b = record { identifier = p; block = b }
 
 -- ---- small facts
-exit-to : (m : List ℕ) (x : Exit) → IsTo x → exitPlace m x ≡ made (place (toLabel x) run)
+pub exit-to : (m : List ℕ) (x : Exit) → IsTo x → exitPlace m x ≡ made (place (toLabel x) run)
 unfolding exitPlace
 exit-to m (Exit.To l) h = refl
 exit-to m (Exit.Either e l k) h = absurd h

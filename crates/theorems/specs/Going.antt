@@ -1,12 +1,10 @@
 -- The newest kept step of a reached machine goes back. Assumes that the image is sound.
 use mathlib.Core.Path.{_≡_, refl, sym, ap, _∙_, subst}
-use mathlib.Core.Logic.{inl, inr, _≢_}
-use mathlib.Core.Bool.{Bool, true, false}
-use mathlib.Core.Option.{Option, some}
+use mathlib.Core.Logic.{inl, inr}
+use mathlib.Core.Bool.{Bool, false}
+use mathlib.Core.Option.{some}
 use mathlib.Core.List.{List, [], _∷_, _++_, map, append-nil}
-use Prim.Native.Nat.{ℕ, _+_, _≤_}
-use native.Mathlib.Omega.{arith}
-use lib.ListN.{length, length-append}
+use Prim.Native.Nat.{ℕ}
 use lib.Dec.{eqb}
 use Rattle.theory.specs.Replay
 use Rattle.theory.specs.Local.{Taken, Outcome, fired}
@@ -14,33 +12,28 @@ use Rattle.theory.specs.Shapes.{footprints, back, back-shape, Backward}
 use Rattle.theory.specs.Family.{Ok}
 use Rattle.theory.specs.Machine.{mark}
 use Rattle.rules.specs.Base.{some-of}
-use Rattle.rules.specs.Labels.{called}
-use Rattle.rules.specs.Calls.{mostRows}
-use Rattle.rules.specs.Machine.{Kept, Machine, begin, end, standing}
+use Rattle.rules.specs.Machine.{Kept, Machine, standing}
 use Rattle.rules.specs.Fits.{exitBlock}
 use Rattle.rules.specs.Cause.{holds}
 use Rattle.rules.specs.Leaf.{made}
-use Rattle.rules.specs.Step.{undo, closeUp, childRows}
+use Rattle.rules.specs.Step.{undo, closeUp}
 use Rattle.rules.specs.declared.Block.{Block}
 use Rattle.rules.specs.declared.Place.{Place}
 use Rattle.laws.specs.Conflict.{conflicts}
 use Rattle.laws.proofs.Ascending.{close-at}
 use Rattle.theorems.specs.Held.{held}
 use Rattle.theorems.specs.Memory.{Fine}
-use Rattle.theorems.specs.Parts.{calls}
 use Rattle.theorems.specs.Program.{Sound, real}
-use Rattle.theorems.specs.Children.{kids, Childless, insert-length, child-length}
+use Rattle.theorems.specs.Children.{kids}
 use Rattle.theorems.specs.Forward.{Configuration, configurationOf, entryOf, ahead}
-use Rattle.theorems.specs.Backward.{behind, goes-back, merge-moves, unmerged}
+use Rattle.theorems.specs.Backward.{behind, goes-back}
 use Rattle.theorems.specs.Reached.{Reached, Replayed, reached-rows, laws, origin, origin-ok, map-append}
-use Rattle.theorems.specs.Fitting.{reached-room}
+use Rattle.theorems.specs.Room.{children-room}
+use Rattle.theorems.specs.Stands.{call-here}
 
 none-of : (g : Kept → Bool) → some-of g [] ≡ false
 unfolding some-of
 none-of g = refl
-
-some-pair : (x y : Taken × Configuration) → Path (Option (Taken × Configuration)) (some x) (some y) → x ≡ y
-some-pair x y h = cc
 
 module _ (program : List Block) (S : Sound program) (memory : List ℕ) (fine : Fine memory) where
   -- who goes back stands somewhere
@@ -75,9 +68,9 @@ module _ (program : List Block) (S : Sound program) (memory : List ℕ) (fine : 
       let ok = reached-rows program S memory fine m r in
       let free : holds program (m .history) p ≡ false = ap (λ (t : List Kept). holds program t p) e ∙ held program h k [] no-later ∙ none-later k in
       let c : closeUp (m .history) p ≡ h = ap (λ (t : List Kept). closeUp t p) e ∙ close-at p h k [] refl no-later ∙ append-nil h in
-      let len : length (m .history) ≡ length h + 1 = ap length e ∙ length-append h (k ∷ []) in
       let g = goes-back program S m p (l .0) (l .1) (r .ordered) (ok .1 .tree) (ok .0) (entryOf k) s (n .1) free
-      (λ run alone call. room (l .0) (l .1) s (n .1) (n .2) c (omega (arith, len, r .few)) run alone call) in
+      (λ run alone call. children-room program S (m .rows) (r .ordered) (ok .0) (ok .1) p (l .0) (exitBlock program (l .0)) (l .1) alone call
+      (sym (call-here program S (l .0) (exitBlock program (l .0)) call (inr refl)))) in
       record { here = l .0; live = l .1; leaves = g .0; undone = g .1; history = c }
     where
       no-later : some-of (λ (j : Kept). eqb (j .identifier) (k .identifier)) [] ≡ false
@@ -85,26 +78,3 @@ module _ (program : List Block) (S : Sound program) (memory : List ℕ) (fine : 
 
       none-later : (k : Kept) → some-of (conflicts program k) [] ≡ false
       none-later k = none-of (conflicts program k)
-
-      -- the children's rows had room before they were merged
-      room :
-          (here : Place) (live : standing (m .rows) (k .identifier) ≡ some here) (s : Configuration) →
-          behind program S (configurationOf m) (k .identifier) ≡ some (entryOf k, s) → Replayed program S memory fine s (map entryOf h) →
-          closeUp (m .history) (k .identifier) ≡ h → length h ≤ 4096 → here .stage ≢ begin → Childless (standing (m .rows)) (k .identifier) →
-          calls program (exitBlock program here) ≡ true →
-          length (m .rows) + length (called program (exitBlock program here)) ≤ mostRows
-      room here live s b g c few run alone call =
-          let p = k .identifier in
-          let ok = reached-rows program S memory fine m r in
-          let u = merge-moves program S m p here live (r .ordered) (ok .1 .tree) (ok .0) run alone call in
-          let m″ : Machine = unmerged program S m p here live (r .ordered) (ok .1 .tree) (ok .0) in
-          let same : s ≡ configurationOf m″ = ap (λ (z : Taken × Configuration). z .1) (some-pair _ _ (sym b ∙ u .moves)) in
-          let g′ : Replayed program S memory fine (configurationOf m″) (map entryOf (m″ .history)) =
-          subst (Replayed program S memory fine (configurationOf m″)) (ap (map entryOf) (sym c))
-          (subst (λ (z : Configuration). Replayed program S memory fine z (map entryOf h)) same g) in
-          let r′ : Reached program S memory fine m″ =
-          record { replayed = g′; ordered = u .ordered; few = subst (λ (t : List Kept). length t ≤ 4096) (sym c) few } in
-          let room = reached-room program S memory fine m″ r′ in
-          let e₁ = insert-length (m .rows) p (childRows p end 1 (called program (exitBlock program here))) in
-          let e₂ = child-length p end 1 (called program (exitBlock program here)) in
-          omega (arith, room, e₁, e₂)

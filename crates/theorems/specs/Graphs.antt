@@ -108,7 +108,7 @@ pub record Shows (program : List Block) (G : Base) (earlier : List Kept) : Type 
   pub counts : (p : ℕ) → G .count p ≡ entriesOf p earlier
   pub last : (r : ℕ) → r < resources → sourceOf (G .last r) ≡ lastWriter program earlier r
 
-entries-more : (p : ℕ) (earlier : List Kept) (k : Kept) → entriesOf p (earlier ++ k ∷ []) ≡ entriesOf p earlier + pick (eqb (k .identifier) p) 1 0
+pub entries-more : (p : ℕ) (earlier : List Kept) (k : Kept) → entriesOf p (earlier ++ k ∷ []) ≡ entriesOf p earlier + pick (eqb (k .identifier) p) 1 0
 unfolding entriesOf those pick
 entries-more p [] k = go (eqb (k .identifier) p)
   where
@@ -138,7 +138,7 @@ last-append program pre s (k ∷ u) v r =
     last-append program (pre ++ k ∷ []) (pick (writes program k r) (node (nodeOf pre k)) s) u v r
     ∙ ap (λ (l : List Kept). lastFrom program l (lastFrom program pre s (k ∷ u) r) v r) (append-assoc pre (k ∷ []) u)
 
-last-more :
+pub last-more :
     (program : List Block) (earlier : List Kept) (k : Kept) (r : ℕ) →
     lastWriter program (earlier ++ k ∷ []) r ≡ pick (writes program k r) (node (nodeOf earlier k)) (lastWriter program earlier r)
 unfolding lastWriter lastFrom
@@ -235,7 +235,7 @@ module _ (program : List Block) where
   abbrev pub edgeAt : ℕ → ℕ → ℕ → Bool → Origin → Edge
   edgeAt p k r w s = record { source = sourceOf s; resource = r; target = nodeAt p k; write = w }
 
-  up-listed : (n a r : ℕ) → a ≤ r → r < a + n → List·Memᴰ r (upFrom a n)
+  pub up-listed : (n a r : ℕ) → a ≤ r → r < a + n → List·Memᴰ r (upFrom a n)
   unfolding upFrom
   up-listed zero a r lo hi = absurd (omega arith)
   up-listed (suc n) a r lo hi = go (ℕ-discrete r a) (λ l. up-listed n (suc a) r l (omega arith))
@@ -244,7 +244,7 @@ module _ (program : List Block) where
       go (yes e) ih = List·Memᴰ·head e
       go (no d) ih = List·Memᴰ·tail (ih (omega (arith, d, lo)))
 
-  listed-up : (n a r : ℕ) → List·Memᴰ r (upFrom a n) → r < a + n
+  pub listed-up : (n a r : ℕ) → List·Memᴰ r (upFrom a n) → r < a + n
   unfolding upFrom
   listed-up zero a r m = absurd (List·Memᴰ·not-nil m)
   listed-up (suc n) a r m = go (List·Memᴰ·cases-cons m) (λ m′. listed-up n (suc a) r m′)
@@ -253,7 +253,7 @@ module _ (program : List Block) where
       go (inl e) ih = omega (arith, e)
       go (inr m′) ih = omega (arith, ih m′)
 
-  for-listed :
+  pub for-listed :
       (earlier : List Kept) (k : Kept) (rs : List ℕ) (r : ℕ) → List·Memᴰ r rs → reads program k r ≡ true →
       List·Memᴰ (edgeOf program earlier k r) (edgesFor program earlier k rs)
   unfolding edgesFor pick
@@ -271,7 +271,7 @@ module _ (program : List Block) where
           absurd (true-false (or-left (reads program k q) (writes program k q) (subst (λ (z : ℕ). reads program k z ≡ true) x h)) e)
       go false e (inr m′) ih = ih m′
 
-  listed-for :
+  pub listed-for :
       (earlier : List Kept) (k : Kept) (rs : List ℕ) (e : Edge) → List·Memᴰ e (edgesFor program earlier k rs) →
       (r : ℕ) × List·Memᴰ r rs × (reads program k r ≡ true) × (e ≡ edgeOf program earlier k r)
   unfolding edgesFor pick reads writes

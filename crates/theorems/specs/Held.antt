@@ -34,7 +34,7 @@ module _ {A : Type 0} where
       go (inl e) ih = subst (λ (z : A). p z ≡ true) (sym e) (and-true (p a) (each-of p l) h .0)
       go (inr m′) ih = ih m′
 
-  mem-each : (p : A → Bool) (l : List A) → ((x : A) → List·Memᴰ x l → p x ≡ true) → each-of p l ≡ true
+  pub mem-each : (p : A → Bool) (l : List A) → ((x : A) → List·Memᴰ x l → p x ≡ true) → each-of p l ≡ true
   unfolding each-of
   mem-each p [] h = refl
   mem-each p (a ∷ l) h = true-and (p a) (each-of p l) (h a (List·Memᴰ·head refl)) (mem-each p l (λ x m. h x (List·Memᴰ·tail m)))
@@ -52,7 +52,7 @@ module _ {A : Type 0} where
       go false e (inl q) ih = absurd (true-false (subst (λ (z : A). p z ≡ true) q h) e)
       go false e (inr m′) ih = ih m′
 
-  those-mem : (p : A → Bool) (l : List A) (x : A) → List·Memᴰ x (those p l) → List·Memᴰ x l × (p x ≡ true)
+  pub those-mem : (p : A → Bool) (l : List A) (x : A) → List·Memᴰ x (those p l) → List·Memᴰ x l × (p x ≡ true)
   unfolding those pick
   those-mem p [] x m = absurd (List·Memᴰ·not-nil m)
   those-mem p (a ∷ l) x m = go (p a) refl m (λ m′. those-mem p l x m′)
@@ -90,12 +90,12 @@ below-some p (suc n) h = go (or-cases (someBelow p n) (p n) h) (λ k. below-some
     go (inl k) ih = let x = ih k in (x .0, omega (arith, x .1), x .2)
     go (inr k) ih = (n, omega arith, k)
 
-unread : (w : Bool) → not w ≡ true → w ≡ false
+pub unread : (w : Bool) → not w ≡ true → w ≡ false
 unread true h = absurd (true-false h refl)
 unread false h = refl
 
 -- ---- sources
-same-source : (a b : Source) → sameSource a b ≡ true → a ≡ b
+pub same-source : (a b : Source) → sameSource a b ≡ true → a ≡ b
 same-source startMark startMark h = refl
 same-source startMark (node b) h = absurd (true-false h refl)
 same-source (node a) startMark h = absurd (true-false h refl)
@@ -105,7 +105,7 @@ same-source (node a) (node b) h =
     let k = eqb-true (a .number) (b .number) (x .1) in
     λ i. node (record { process = p i; number = k i })
 
-source-same : (a b : Source) → a ≡ b → sameSource a b ≡ true
+pub source-same : (a b : Source) → a ≡ b → sameSource a b ≡ true
 source-same a b e = subst (λ (z : Source). sameSource a z ≡ true) e (self a)
   where
     self : (a : Source) → sameSource a a ≡ true
@@ -255,7 +255,7 @@ module _ (program : List Block) where
       none-or (conflicts program k j) (some-of (conflicts program k) later) (steps-apart k j (a .1)) (all-apart k later (a .2))
 
   -- ---- the newest node
-  none-counted : (p : ℕ) (later : List Kept) → NoneOf p later → entriesOf p later ≡ 0
+  pub none-counted : (p : ℕ) (later : List Kept) → NoneOf p later → entriesOf p later ≡ 0
   unfolding entriesOf those some-of pick
   none-counted p [] n = refl
   none-counted p (j ∷ later) n =

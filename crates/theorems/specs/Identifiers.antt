@@ -56,7 +56,7 @@ digits-below (suc n) x h =
         let l = ih (b .1) in
         omega (arith, l)
 
-pow-more : (k n : ℕ) → k ≤ n → sixteen-to k ≤ sixteen-to n
+pub pow-more : (k n : ℕ) → k ≤ n → sixteen-to k ≤ sixteen-to n
 pow-more zero zero h = omega arith
 pow-more zero (suc n) h = omega (arith, pow-more zero n (omega arith))
 pow-more (suc k) zero h = absurd (omega arith)

@@ -10,10 +10,12 @@ use borrow.Author.Tests.{eqb-true}
 use Rattle.theory.specs.Tests.{eqb-same, and-true, true-and, or-left, or-right}
 use Rattle.rules.specs.Base.{pick}
 use Rattle.rules.specs.Names.{entryNames, exitNames, semaphoreNames, otherNames, blockNames, blockReads, instructionWrites, blockWrites}
-use Rattle.rules.specs.Machine.{place, run, end}
-use Rattle.rules.specs.Fits.{exitHolds}
+use Rattle.rules.specs.Machine.{place, begin, run, end}
+use Rattle.rules.specs.Fits.{entryHolds, exitHolds}
 use Rattle.rules.specs.Leaf.{Tried, made, refused, after, Moved, expressionValue, chosen, entryPlace, exitPlace, act, inverse, present, leafForward, leafUndo}
+use Rattle.rules.specs.declared.Change.{Change}
 use Rattle.rules.specs.declared.Instruction.{Instruction}
+use Rattle.rules.specs.declared.Entry.{Entry}
 use Rattle.rules.specs.declared.Exit.{Exit}
 use Rattle.rules.specs.declared.Block.{Block}
 use Rattle.rules.specs.declared.Place.{Place}
@@ -83,6 +85,34 @@ swung-by m here before i next s w =
     ∙ made-after (act m i) _ (s .memory) (w .acts)
     ∙ made-after (next (s .memory)) _ (s .stands) (w .onto)
 
+-- a leaf's step and its undo, by their three parts
+pub record Forth (m : List ℕ) (here : Place) (b : Block) (s : Moved) : Type 0 where
+  pub enters : entryPlace m (b .entry) ≡ made here
+  pub acts : act m (b .instruction) ≡ made (s .memory)
+  pub leaves : exitPlace (s .memory) (b .exit) ≡ made (s .stands)
+
+pub record Back (m : List ℕ) (here : Place) (b : Block) (s : Moved) : Type 0 where
+  pub leaves : exitPlace m (b .exit) ≡ made here
+  pub acts : act m (inverse (b .instruction)) ≡ made (s .memory)
+  pub enters : entryPlace (s .memory) (b .entry) ≡ made (s .stands)
+
+pub forth-of : (m : List ℕ) (here : Place) (b : Block) (s : Moved) → leafForward m here b ≡ made s → Forth m here b s
+forth-of m here b s h =
+    let w = swings m here (λ k. entryPlace k (b .entry)) (b .instruction) (λ k. exitPlace k (b .exit)) s (sym (forward-swung m here b) ∙ h) in
+    record { enters = w .from; acts = w .acts; leaves = w .onto }
+
+pub of-forth : (m : List ℕ) (here : Place) (b : Block) (s : Moved) → Forth m here b s → leafForward m here b ≡ made s
+of-forth m here b s w =
+    forward-swung m here b
+    ∙ swung-by m here (λ k. entryPlace k (b .entry)) (b .instruction) (λ k. exitPlace k (b .exit)) s
+    (record { from = w .enters; acts = w .acts; onto = w .leaves })
+
+pub back-of : (m : List ℕ) (here : Place) (b : Block) (s : Moved) → leafUndo m here b ≡ made s → Back m here b s
+back-of m here b s h =
+    let w =
+    swings m here (λ k. exitPlace k (b .exit)) (inverse (b .instruction)) (λ k. entryPlace k (b .entry)) s (sym (undo-swung m here b) ∙ h) in
+    record { leaves = w .from; acts = w .acts; enters = w .onto }
+
 -- ---- an inverse names and writes what its instruction does
 inverse-names : (i : Instruction) (r : ℕ) → (otherNames (inverse i) r || semaphoreNames (inverse i) r) ≡ (otherNames i r || semaphoreNames i r)
 inverse-names (Instruction.Update change a e) r = refl
@@ -102,7 +132,7 @@ inverse-writes (Instruction.Assert e) r = refl
 inverse-writes Instruction.Skip r = refl
 inverse-writes (Instruction.Call n) r = refl
 
-inverse-fair : (i : Instruction) → InstructionFit i → InstructionFit (inverse i)
+pub inverse-fair : (i : Instruction) → InstructionFit i → InstructionFit (inverse i)
 inverse-fair (Instruction.Update change a e) f = f
 inverse-fair (Instruction.Exchange a b) f = f
 inverse-fair (Instruction.OpV x) f = f
@@ -110,6 +140,23 @@ inverse-fair (Instruction.OpP x) f = f
 inverse-fair (Instruction.Assert e) f = f
 inverse-fair Instruction.Skip f = f
 inverse-fair (Instruction.Call n) f = f
+
+pub of-back : (m : List ℕ) (here : Place) (b : Block) (s : Moved) → Back m here b s → leafUndo m here b ≡ made s
+of-back m here b s w =
+    undo-swung m here b
+    ∙ swung-by m here (λ k. exitPlace k (b .exit)) (inverse (b .instruction)) (λ k. entryPlace k (b .entry)) s
+    (record { from = w .leaves; acts = w .acts; onto = w .enters })
+
+inverse-twice : (i : Instruction) → inverse (inverse i) ≡ i
+inverse-twice (Instruction.Update Change.Add a e) = refl
+inverse-twice (Instruction.Update Change.Subtract a e) = refl
+inverse-twice (Instruction.Update Change.Xor a e) = refl
+inverse-twice (Instruction.Exchange a b) = refl
+inverse-twice (Instruction.OpV x) = refl
+inverse-twice (Instruction.OpP x) = refl
+inverse-twice (Instruction.Assert e) = refl
+inverse-twice Instruction.Skip = refl
+inverse-twice (Instruction.Call n) = refl
 
 -- ---- parts of what a block reads
 reads-entry : (b : Block) (r : ℕ) → entryNames (b .entry) r ≡ true → blockReads b r ≡ true
@@ -202,6 +249,20 @@ module _ (b : Block) (f : BlockFit b) where
       (record { stands = here; memory = m })
       (record { from = w .onto; acts = act-back m (b .instruction) (s .memory) k (f .instruction) (w .acts); onto = w .from })
 
+  -- and a step forward takes an undo back
+  pub back-forward :
+      (m : List ℕ) (here : Place) (s : Moved) → Fine m → leafUndo m here b ≡ made s →
+      leafForward (s .memory) (s .stands) b ≡ made (record { stands = here; memory = m })
+  back-forward m here s k h =
+      let w = back-of m here b s h in
+      let acts = act-back m (inverse (b .instruction)) (s .memory) k (inverse-fair (b .instruction) (f .instruction)) (w .acts) in
+      of-forth (s .memory) (s .stands) b (record { stands = here; memory = m })
+      (record {
+        enters = w .enters;
+        acts = subst (λ (i : Instruction). act (s .memory) i ≡ made m) (inverse-twice (b .instruction)) acts;
+        leaves = w .leaves;
+      })
+
   pub forward-from :
       (m : List ℕ) (here : Place) (s : Moved) → leafForward m here b ≡ made s →
       (entryPlace m (b .entry) ≡ made here) × (exitPlace (s .memory) (b .exit) ≡ made (s .stands))
@@ -238,3 +299,11 @@ exit-held m (Exit.Either e l k) q h =
     let y = after-made (expressionValue m e) _ q h in
     subst (λ (p : Place). exitHolds (Exit.Either e l k) p ≡ true) (made-inj (chosen l k (y .0)) q (y .2)) (chosen-held l k (y .0))
 exit-held m (Exit.End l) q h = subst (λ (p : Place). exitHolds (Exit.End l) p ≡ true) (made-inj (place l end) q h) (eqb-same l l refl)
+
+pub entry-held : (m : List ℕ) (x : Entry) (q : Place) → entryPlace m x ≡ made q → entryHolds x q ≡ true
+unfolding entryPlace
+entry-held m (Entry.From l) q h = subst (λ (p : Place). entryHolds (Entry.From l) p ≡ true) (made-inj (place l run) q h) (eqb-same l l refl)
+entry-held m (Entry.Either l k e) q h =
+    let y = after-made (expressionValue m e) _ q h in
+    subst (λ (p : Place). entryHolds (Entry.Either l k e) p ≡ true) (made-inj (chosen l k (y .0)) q (y .2)) (chosen-held l k (y .0))
+entry-held m (Entry.Begin l) q h = subst (λ (p : Place). entryHolds (Entry.Begin l) p ≡ true) (made-inj (place l begin) q h) (eqb-same l l refl)

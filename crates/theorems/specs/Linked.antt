@@ -31,7 +31,7 @@ use Rattle.theorems.specs.Packed.{packed-fits}
 use Rattle.theorems.specs.Played.{Call, play, Subject, startedIn, playedIn}
 
 -- numbers that are each below a bound, by their place; past the end stands 0
-each-below : (l : List ℕ) (n : ℕ) → 0 < n → each-of (λ v. ltb v n) l ≡ true → (i : ℕ) → getD l i 0 < n
+pub each-below : (l : List ℕ) (n : ℕ) → 0 < n → each-of (λ v. ltb v n) l ≡ true → (i : ℕ) → getD l i 0 < n
 each-below l n pos h i = go (bool-cases (ltb i (length l)))
   where
     go : (ltb i (length l) ≡ true) ⊎ (ltb i (length l) ≡ false) → getD l i 0 < n
@@ -80,7 +80,7 @@ module _ (s : Subject) where
       (reached-machine-fits (s .program) sound (s .memory) first-fine m (l .reached))
 
   -- ---- the codes of judging are past
-  on-image : (w : List ℕ) (f : List Block → Outcome (List ℕ)) → onImage (s .image) w f ≡ f (s .program)
+  pub on-image : (w : List ℕ) (f : List Block → Outcome (List ℕ)) → onImage (s .image) w f ≡ f (s .program)
   unfolding onImage
   on-image w f = ap (λ r. readThen r w f) (s .decodes) ∙ ap (λ j. judgedThen j w (f (s .program))) (s .accepts)
 

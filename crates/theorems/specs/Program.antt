@@ -74,7 +74,7 @@ from-one (Entry.From l) a f h =
 from-one (Entry.Either l m e) a f h = absurd f
 from-one (Entry.Begin l) a f h = absurd f
 
-at-from : (e : Entry) → IsFrom e → entryHolds e (place (fromLabel e) run) ≡ true
+pub at-from : (e : Entry) → IsFrom e → entryHolds e (place (fromLabel e) run) ≡ true
 at-from (Entry.From l) f = eqb-same l l refl
 at-from (Entry.Either l m e) f = absurd f
 at-from (Entry.Begin l) f = absurd f

@@ -57,7 +57,7 @@ some-counted p (j ∷ t) h e = go (ℕ-discrete (j .identifier) p) (λ k q. some
         omega (arith, z)
     go (no d) ih = ih (rw (eqb-other (j .identifier) p d) at h) (rw (eqb-other (j .identifier) p d) at e)
 
-newest-of : (p : ℕ) (history : List Kept) → (entriesOf p history ≡ 0 → ⊥) → Newest history p
+pub newest-of : (p : ℕ) (history : List Kept) → (entriesOf p history ≡ 0 → ⊥) → Newest history p
 unfolding entriesOf those some-of pick
 newest-of p [] h = absurd (h refl)
 newest-of p (j ∷ t) h = go (bool-cases (some-of (λ i. eqb (i .identifier) p) t)) (ℕ-discrete (j .identifier) p) (λ k. newest-of p t k)

@@ -130,6 +130,11 @@ at-begin (Entry.From m) l h = none-in l h
 at-begin (Entry.Either m k e) l h = none-in l h
 at-begin (Entry.Begin m) l h = in-one l m h
 
+pub out-run : (e : Exit) (l : ℕ) → 1 ≤ times l (exitLabels e) → exitHolds e (place l run) ≡ true
+out-run (Exit.To m) l h = in-one l m h
+out-run (Exit.Either e m k) l h = in-two l m k h
+out-run (Exit.End m) l h = none-in l h
+
 pub at-end : (e : Exit) (l : ℕ) → 1 ≤ times l (endLabels e) → exitHolds e (place l end) ≡ true
 at-end (Exit.To m) l h = none-in l h
 at-end (Exit.Either e m k) l h = none-in l h

@@ -2,7 +2,7 @@
 use mathlib.Core.Path.{_≡_, refl, sym, _∙_, subst, fun-ext}
 use mathlib.Core.Logic.{_⊎_, inl, inr, _↔_, _≢_}
 use mathlib.Core.Bool.{Bool, true, false, cond}
-use mathlib.Core.List.{List, [], _∷_, _++_}
+use mathlib.Core.List.{List, [], _∷_, _++_, append-nil}
 use Prim.Native.Nat.{ℕ, suc, _+_, _≤_, _<_}
 use native.Mathlib.Omega.{arith}
 use lib.Dec.{eqb}
@@ -144,6 +144,32 @@ module _ (Φ : Feet) where
   move P st G e (f ∷ u) w a =
       let ih = move P st (push Φ G f) e u w (a .2) in
       (move-to P st G e f (u ++ e ∷ w) (u ++ w) (a .0) (a .1) (ih .0), move-from P st G e f (u ++ e ∷ w) (u ++ w) (a .0) (a .1) (ih .1))
+
+  -- or to the end over later steps that it is apart from
+  move-last :
+      (P : Base → Entry → Type 0) → Stable P → (G : Base) (h : List Entry) (e : Entry) (u : List Entry) → Apart Φ e u →
+      Any Φ P G (h ++ e ∷ u) ↔ Any Φ P G (h ++ (u ++ e ∷ []))
+  move-last P st G [] e u a =
+      let m = move P st G e u [] a in
+      let s : u ++ [] ≡ u = append-nil u in (
+        (λ x. m .1 (subst (λ (l : List Entry). Any Φ P G (e ∷ l)) (sym s) x)),
+        (λ x. subst (λ (l : List Entry). Any Φ P G (e ∷ l)) s (m .0 x)),
+      )
+  move-last P st G (f ∷ h) e u a =
+      let ih = move-last P st (push Φ G f) h e u a in
+      ((λ x. over (h ++ e ∷ u) (h ++ (u ++ e ∷ [])) (ih .0) x), (λ x. over (h ++ (u ++ e ∷ [])) (h ++ e ∷ u) (ih .1) x))
+    where
+      over :
+          (l l′ : List Entry) → (Any Φ P (push Φ G f) l → Any Φ P (push Φ G f) l′) → P G f ⊎ Any Φ P (push Φ G f) l → P G f ⊎ Any Φ P (push Φ G f) l′
+      over l l′ g (inl x) = inl x
+      over l l′ g (inr y) = inr (g y)
+
+  pub same-moved : (G : Base) (h : List Entry) (e : Entry) (u : List Entry) → Apart Φ e u → SameGraph Φ G (h ++ e ∷ u) (h ++ (u ++ e ∷ []))
+  same-moved G h e u a =
+      record {
+        nodes = λ p k. move-last (NodeAt Φ p k) (node-stable p k) G h e u a;
+        edges = λ p k r w s. move-last (EdgeAt Φ p k r w s) (edge-stable p k r w s) G h e u a;
+      }
 
   -- the graph without its first step, where the other history has moved that step to the front
   pop :

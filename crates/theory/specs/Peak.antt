@@ -12,12 +12,12 @@ use lib.Dec.{eqb}
 use lib.ListN.{length}
 use Rattle.theory.specs.Tests.{bool-cases, eqb-same, eqb-other, eqb-eq, or-left, none-some, not-true, some-inj}
 use Rattle.theory.specs.Replay.{by-forward}
-use Rattle.theory.specs.Local.{Taken, isKid, kid-facts, view, fired, put, put-self, put-outside, Touches, Outcome}
+use Rattle.theory.specs.Local.{Taken, isKid, kid-facts, view, fired, put, put-self, put-outside, Touches}
 use Rattle.theory.specs.Program.{Program}
-use Rattle.theory.specs.Shapes.{C, footprints, forward, forward-shape, Forward, hasKids}
+use Rattle.theory.specs.Shapes.{C, Kids, footprints, forward, forward-shape, hasKids}
 use Rattle.theory.specs.Framing.{view-kid}
 use Rattle.theory.specs.Family.{Ok, OkRows, OfLabel, view-at}
-use Rattle.theory.specs.Growing.{forward-row}
+use Rattle.theory.specs.Growing.{Grows, forward-grows}
 use Rattle.theory.specs.Machine.{onward, backward, mark, lawful}
 use Rattle.theory.specs.Started.{Replays, first, root, root-other, root-ok}
 use Rattle.theory.specs.Optional.{any-none, any-of, slot-of}
@@ -153,40 +153,36 @@ module _ {Place Memory Value : Type 0} {look : Memory → ℕ → Value} {readin
     pub top-is : R 0 ≡ some top
     pub in-main : Π .home top ≡ Π .home (Π .beginPlace 0)
 
-  hangs-step :
-      (s : C Π) (p : ℕ) (o : Outcome Place Memory) → OkRows Π (s .rows) → Forward Π (s .rows p) (view (s .rows) p) (s .memory) o → Hangs (s .rows) →
-      Hangs (put (s .rows) p (o .row) (o .kids))
-  hangs-step s p o ok sh H = go (ℕ-discrete 0 p)
+  -- rows that are put in so as to stay well-formed hang from the root as before
+  pub hangs-grown : (R : ℕ → Option Place) (p : ℕ) (ρ : Option Place) (k : Kids Π) → Grows Π R p ρ k → Hangs R → Hangs (put R p ρ k)
+  hangs-grown R p ρ k g H = go (ℕ-discrete 0 p)
     where
       R₁ : ℕ → Option Place
-      R₁ = put (s .rows) p (o .row) (o .kids)
+      R₁ = put R p ρ k
 
-      mv : (a : Place) × (a′ : Place) × (s .rows p ≡ some a) × (o .row ≡ some a′) × (Π .home a′ ≡ Π .home a) × Π .valid a′
-      mv = forward-row Π (s .rows p) (view (s .rows) p) (s .memory) o (λ a h. ok .places p a h) sh
-
-      outside : (x : ℕ) → x ≢ p → isKid p x ≡ false → R₁ x ≡ s .rows x
-      outside x n k = let z : Touches p x ≡ false = rw (eqb-other x p n, k) in put-outside (s .rows) p (o .row) (o .kids) x z
+      outside : (x : ℕ) → x ≢ p → isKid p x ≡ false → R₁ x ≡ R x
+      outside x n c = let z : Touches p x ≡ false = rw (eqb-other x p n, c) in put-outside R p ρ k x z
 
       tr : (x : ℕ) (a : Place) → R₁ x ≡ some a → Dec (x ≡ p) → (isKid p x ≡ true) ⊎ (isKid p x ≡ false) → (x ≡ 0) ⊎ (isKid (x / 16) x ≡ true)
-      tr x a h (yes e) k = H .tree x (mv .0) (ap (s .rows) e ∙ mv .2)
-      tr x a h (no n) (inl k) = let f = kid-facts p x k in inr (subst (λ z. isKid z x ≡ true) (sym (f .2)) k)
-      tr x a h (no n) (inr k) = H .tree x a (sym (outside x n k) ∙ h)
+      tr x a h (yes e) c = H .tree x (g .before) (ap R e ∙ g .row-is)
+      tr x a h (no n) (inl c) = let f = kid-facts p x c in inr (subst (λ z. isKid z x ≡ true) (sym (f .2)) c)
+      tr x a h (no n) (inr c) = H .tree x a (sym (outside x n c) ∙ h)
 
       tree₁ : (x : ℕ) (a : Place) → R₁ x ≡ some a → (x ≡ 0) ⊎ (isKid (x / 16) x ≡ true)
       tree₁ x a h = tr x a h (ℕ-discrete x p) (bool-cases (isKid p x))
 
       no-kid : isKid p 0 ≡ true → ⊥
-      no-kid k = let f = kid-facts p 0 k in let z : 1 ≤ 0 = f .0 in omega arith
+      no-kid c = let f = kid-facts p 0 c in let z : 1 ≤ 0 = f .0 in omega arith
 
       go : Dec (0 ≡ p) → Hangs R₁
       go (yes e) =
-          let old : s .rows 0 ≡ some (mv .0) = ap (s .rows) e ∙ mv .2 in
-          let same : H .top ≡ mv .0 = some-inj (H .top) (mv .0) (sym (H .top-is) ∙ old) in
+          let old : R 0 ≡ some (g .before) = ap R e ∙ g .row-is in
+          let same : H .top ≡ g .before = some-inj (H .top) (g .before) (sym (H .top-is) ∙ old) in
           record {
             tree = tree₁;
-            top = mv .1;
-            top-is = ap R₁ e ∙ put-self (s .rows) p (o .row) (o .kids) ∙ mv .3;
-            in-main = mv .4 ∙ ap (Π .home)
+            top = g .after;
+            top-is = ap R₁ e ∙ put-self R p ρ k ∙ g .row-after;
+            in-main = g .same-home ∙ ap (Π .home)
                 (sym same) ∙ H .in-main;
           }
       go (no n) = record { tree = tree₁; top = H .top; top-is = outside 0 n (not-true (isKid p 0) no-kid) ∙ H .top-is; in-main = H .in-main }
@@ -206,7 +202,9 @@ module _ {Place Memory Value : Type 0} {look : Memory → ℕ → Value} {readin
     keep-well c c′ h e ok w st =
         let x = fired (forward Π) c (e .process) e c′ st in
         let sh = forward-shape Π (c .rows (e .process)) (view (c .rows) (e .process)) (c .memory) (x .out) (x .at) in
-        (lawful Π .ok-step c c′ e ok st .0, subst (λ z. Hangs (z .rows)) (sym (x .is-done)) (hangs-step c (e .process) (x .out) (ok .0) sh (w .1)))
+        let g = forward-grows Π c (e .process) (ok .0) (x .out) sh in
+        let k = hangs-grown (c .rows) (e .process) (x .out .row) (x .out .kids) g (w .1) in
+        (lawful Π .ok-step c c′ e ok st .0, subst (λ z. Hangs (z .rows)) (sym (x .is-done)) k)
 
     -- what each forward step keeps of a machine and its history holds after every replay
     pub always :
