@@ -6,7 +6,7 @@ use rules::Exit;
 use rules::Place;
 ghost use mathlib.Core.Path.{_≡_};
 ghost use lib.ListN.{length};
-ghost use Rattle.rules.specs.Machine.{memoryWords, place};
+ghost use Rattle.rules.specs.Machine.{memoryWords, machineWords, place, view};
 ghost use Rattle.rules.specs.Leaf.{after, made, chosen, entryPlace, exitPlace};
 ghost use Rattle.laws.specs.Fit.{EntryFit, ExitFit};
 ghost use Rattle.evaluate.specs.Shown.{written, valuedShown};
@@ -94,4 +94,12 @@ pub fn side_place(memory: &[u32], writes: Writes, side: Side) -> Placed
         Side::Entry(entry) => entry_place(memory, writes, entry),
         Side::Exit(exit) => exit_place(memory, writes, exit),
     }
+}
+
+// The place on a machine's words, with nothing pending.
+pub fn place_on(m: &[u32], side: Side) -> Placed
+    requires { ⌜ (length (now m) ≡ machineWords) × SideFit side ⌝ }
+    ensures { λ r. ⌜ placedShown r ≡ sidePlace (view (now (m .entry)) .memory) side ⌝ }
+{
+    side_place(&m[crate::MEMORY..crate::ROWS], Writes::Nothing, side)
 }

@@ -1,4 +1,6 @@
 // The step of a leaf: where the process goes and what is written, or the first refusal met.
+use crate::MEMORY;
+use crate::ROWS;
 use super::act::Acted;
 use super::place::Placed;
 use super::place::Side;
@@ -18,11 +20,6 @@ ghost use Rattle.laws.specs.Fit.{InstructionFit, BlockFit};
 ghost use Rattle.evaluate.specs.Shown.{WritesFit, written};
 ghost use Rattle.leaf.specs.Shown.{ActedFit, actedShown, placedShown, Plans};
 ghost use Rattle.leaf.specs.Side.{SideFit, sidePlace, leading, leafStep};
-
-// Where the memory begins among a machine's words, and where it ends.
-const MEMORY: usize = 2;
-
-const ROWS: usize = 290;
 
 // Where the process then stands and what is written, or the code of a refusal: 22 to 25.
 pub enum LeafPlan {

@@ -1,5 +1,7 @@
-/* A C client of the whole header: judges a few images whose answers document 01 gives, and fails where one differs. */
+/* A C client of the whole header: judges a few images whose answers document 01 gives, starts a machine and runs the worked session
+ * on it, tries refusals, and fails where an answer or a lent byte differs. */
 #include <stdio.h>
+#include <string.h>
 
 #include "tillerwrap.h"
 
@@ -12,6 +14,98 @@ static void expect(const char *what, const uint8_t *image, size_t length, struct
         printf("%s: %u %u %u %u\n", what, (unsigned)got.code, (unsigned)got.place, (unsigned)got.blocks, (unsigned)got.peak);
         failures++;
     }
+}
+
+/* The lent machine stands between guards that no call may touch. */
+enum { MACHINE = TILLERWRAP_MACHINE_BYTES, GUARD = 64, GUARD_BYTE = 0x5A };
+static uint8_t room[GUARD + MACHINE + GUARD];
+static uint8_t *const machine = room + GUARD;
+
+static void set_guards(void)
+{
+    memset(room, GUARD_BYTE, GUARD);
+    memset(machine + MACHINE, GUARD_BYTE, GUARD);
+}
+
+static void look_at_guards(void)
+{
+    int i;
+    for (i = 0; i < GUARD; i++)
+        if (room[i] != GUARD_BYTE || machine[MACHINE + i] != GUARD_BYTE) {
+            printf("bytes around the machine were written\n");
+            failures++;
+            return;
+        }
+}
+
+static const uint8_t zeros[TILLERWRAP_MEMORY_BYTES] = {0};
+
+static uint32_t word(int at)
+{
+    const uint8_t *b = machine + 4 * at;
+    return (uint32_t)b[0] | (uint32_t)b[1] << 8 | (uint32_t)b[2] << 16 | (uint32_t)b[3] << 24;
+}
+
+static void answers(const char *what, struct tillerwrap_answer got, uint32_t code, uint32_t place)
+{
+    if (got.code != code || got.place != place) {
+        printf("%s: %u %u\n", what, (unsigned)got.code, (unsigned)got.place);
+        failures++;
+    }
+}
+
+/* A refusal, with every lent byte as it was. */
+static void keeps(const char *what, const uint8_t *before, struct tillerwrap_answer got, uint32_t code, uint32_t place)
+{
+    answers(what, got, code, place);
+    if (memcmp(before, machine, MACHINE) != 0) {
+        printf("%s: bytes were written\n", what);
+        failures++;
+    }
+}
+
+/* The commands of the worked session, with the code, live count and history count after each. */
+static const struct {
+    uint32_t direction, process, code, live, kept;
+} session[] = {
+    {TILLERWRAP_FORWARD, 0, 0, 1, 1}, {TILLERWRAP_FORWARD, 0, 0, 3, 2}, {TILLERWRAP_FORWARD, 2, 0, 3, 3},
+    {TILLERWRAP_FORWARD, 1, 0, 3, 4}, {TILLERWRAP_UNDO, 2, 27, 3, 4},   {TILLERWRAP_UNDO, 1, 0, 3, 3},
+    {TILLERWRAP_UNDO, 2, 0, 3, 2},    {TILLERWRAP_UNDO, 0, 0, 1, 1},
+};
+
+static void run_session(const uint8_t *image, size_t length)
+{
+    size_t i;
+    answers("start", tillerwrap_start(image, length, zeros, sizeof zeros, machine, MACHINE), 0, 0);
+    for (i = 0; i < sizeof session / sizeof session[0]; i++) {
+        answers("session", tillerwrap_step(image, length, session[i].process, session[i].direction, machine, MACHINE),
+                session[i].code, 0);
+        if (word(TILLERWRAP_LIVE_COUNT) != session[i].live || word(TILLERWRAP_HISTORY_COUNT) != session[i].kept) {
+            printf("session %u: counts %u %u\n", (unsigned)i, (unsigned)word(TILLERWRAP_LIVE_COUNT),
+                   (unsigned)word(TILLERWRAP_HISTORY_COUNT));
+            failures++;
+        }
+    }
+}
+
+static void run_refusals(const uint8_t *image, size_t length)
+{
+    static uint8_t before[TILLERWRAP_MACHINE_BYTES];
+    memset(machine, 0xA5, MACHINE);
+    memcpy(before, machine, MACHINE);
+    keeps("start, cut image", before, tillerwrap_start(image, length - 1, zeros, sizeof zeros, machine, MACHINE), 3, 38);
+    keeps("start, short memory", before, tillerwrap_start(image, length, zeros, sizeof zeros - 1, machine, MACHINE), 16, 0);
+    keeps("start, short machine", before, tillerwrap_start(image, length, zeros, sizeof zeros, machine, MACHINE - 4), 16, 0);
+    keeps("start, nothing lent", before, tillerwrap_start(image, 0, zeros, 0, machine, 0), 1, 0);
+    keeps("step, cut image", before, tillerwrap_step(image, length - 1, 0, 0, machine, MACHINE - 4), 3, 38);
+    keeps("step, short machine", before, tillerwrap_step(image, length, 0, 0, machine, MACHINE - 4), 16, 0);
+    keeps("step, no machine", before, tillerwrap_step(image, length, 0, 0, machine, MACHINE), 17, 0);
+
+    answers("start again", tillerwrap_start(image, length, zeros, sizeof zeros, machine, MACHINE), 0, 0);
+    memcpy(before, machine, MACHINE);
+    keeps("step, third direction", before, tillerwrap_step(image, length, 1, 2, machine, MACHINE), 19, 0);
+    keeps("step, unknown process", before, tillerwrap_step(image, length, 1, TILLERWRAP_FORWARD, machine, MACHINE), 18, 0);
+    keeps("step, undo at begin", before, tillerwrap_step(image, length, 0, TILLERWRAP_UNDO, machine, MACHINE), 21, 0);
 }
 
 int main(void)
@@ -37,6 +131,10 @@ int main(void)
     expect("no main", no_main, sizeof no_main, mainless);
     expect("worked", worked, sizeof worked, three);
     expect("too long", too_long, sizeof too_long, length);
+    set_guards();
+    run_session(worked, sizeof worked);
+    run_refusals(worked, sizeof worked);
+    look_at_guards();
     printf("client: %d failed\n", failures);
     return failures != 0;
 }

@@ -97,6 +97,17 @@ fn named() -> Vec<u8> {
     bytes
 }
 
+/// Main calls seven labels, each of which calls eight: 64 processes can live at once.
+pub fn crowded() -> Vec<u8> {
+    let mut next = 64;
+    let mut bytes = calling(0, &[(1..=7).collect()], &mut next);
+    for label in 1..=7 {
+        bytes.extend(calling(label, &[vec![8; 8]], &mut next));
+    }
+    bytes.extend(plain(8));
+    bytes
+}
+
 /// Each with the words that the benchmark prints.
 pub fn images() -> Vec<(&'static str, Vec<u8>)> {
     let plain_blocks = std::iter::once(vec![0x22, 0, 0x47, 0x32, 0]);

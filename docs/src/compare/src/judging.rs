@@ -2,25 +2,33 @@
 
 use crate::damage;
 use crate::hostile;
-use crate::library;
+use crate::library::Library;
 use crate::program::{image, program};
 use crate::random::Random;
 
 const CODES: usize = 16;
 
+/// So many images are asked for at once; their answers fit into a pipe.
+const AT_ONCE: usize = 100;
+
 /// Compares `count` random images and prints how often each code came up. False where two answers differ or a code is missing.
-pub fn compare(random: &mut Random, count: usize) -> bool {
+pub fn compare(library: &mut Library, random: &mut Random, count: usize) -> bool {
     let mut seen = [0usize; CODES];
     let hostile = hostile::images().into_iter().map(|(_, image)| image);
-    let random_images = (0..count).map(|turn| an_image(random, turn));
-    for bytes in hostile.chain(random_images) {
-        let ours = library::judge(&bytes);
-        let theirs = independent::judge(&bytes);
-        if ours != theirs {
-            println!("judging differs: {ours:?}, not {theirs:?}, for {bytes:02x?}");
-            return false;
+    let mut images = hostile.chain((0..count).map(|turn| an_image(random, turn)));
+    loop {
+        let some: Vec<Vec<u8>> = images.by_ref().take(AT_ONCE).collect();
+        if some.is_empty() {
+            break;
         }
-        seen[ours.code as usize] += 1;
+        for (bytes, ours) in some.iter().zip(library.judge_all(&some)) {
+            let theirs = independent::judge(bytes);
+            if ours != theirs {
+                println!("judging differs: {ours:?}, not {theirs:?}, for {bytes:02x?}");
+                return false;
+            }
+            seen[ours.code as usize] += 1;
+        }
     }
     println!("judging: {count} images alike");
     for (code, times) in seen.iter().enumerate() {

@@ -38,6 +38,14 @@ impl Point {
         }
     }
 
+    /// The labels that stand here.
+    pub fn labels(&self) -> Vec<u32> {
+        match self {
+            Point::Plain(label) | Point::Border(label) => vec![u32::from(*label)],
+            Point::Condition(first, second, _) => vec![u32::from(*first), u32::from(*second)],
+        }
+    }
+
     /// Puts a label in the place of another wherever it stands.
     pub fn relabel(&mut self, old: u8, new: u8) {
         match self {
@@ -244,9 +252,7 @@ impl Maker<'_> {
 /// A program of at most `limit` blocks; most are accepted, some are too deep or too wide.
 pub fn program(random: &mut Random, limit: usize) -> Vec<Block> {
     let mut labels: Vec<u8> = (1..=255).collect();
-    for i in (1..labels.len()).rev() {
-        labels.swap(i, random.below(i + 1));
-    }
+    random.shuffle(&mut labels);
     let mut maker = Maker {
         random,
         labels,
@@ -268,9 +274,7 @@ pub fn program(random: &mut Random, limit: usize) -> Vec<Block> {
     maker.process_block(0, &callable);
     let mut blocks = maker.blocks;
     if random.once_in(2) {
-        for i in (1..blocks.len()).rev() {
-            blocks.swap(i, random.below(i + 1));
-        }
+        random.shuffle(&mut blocks);
     }
     blocks
 }

@@ -8,50 +8,13 @@ use independent::{Graph, Node};
 
 const SEATS: u32 = 0;
 const SEMAPHORE: u32 = 3;
-const NAMES: [&str; 4] = ["seats", "agent1", "agent2", "semaphore"];
 
-/// Blocks 0 to 12 are the paper's b1 to b13; sub1 and sub2 are labels 101 and 102.
 fn figure_6() -> Run {
-    let image = assemble_named(
-        &NAMES,
-        "begin 0            | seats += 3   | -> 1
-         1 <-               | call 101 102 | -> 2
-         2 <-               | skip         | end 0
-         begin 101          | skip         | -> 3
-         3;4 <- agent1 == 0 | skip         | seats > 0 -> 5;7
-         5 <-               | seats -= 1   | -> 6
-         6 <-               | agent1 += 1  | -> 4
-         7 <-               | skip         | end 101
-         begin 102          | skip         | -> 8
-         8;9 <- agent2 == 0 | skip         | seats > 0 -> 10;12
-         10 <-              | seats -= 1   | -> 11
-         11 <-              | agent2 += 1  | -> 9
-         12 <-              | skip         | end 102",
-    );
-    Run::new(image, &[])
+    Run::new(programs::figure_6(), &[])
 }
 
-/// Blocks 0 to 12 are as in figure 6, blocks 13 and 14 are b'14 and b'15.
 fn figure_8() -> Run {
-    let image = assemble_named(
-        &NAMES,
-        "begin 0            | seats += 3   | -> 1
-         1 <-               | call 101 102 | -> 2
-         2 <-               | skip         | end 0
-         begin 101          | skip         | -> 3
-         3;4 <- agent1 == 0 | V semaphore  | seats > 0 -> 5;7
-         5 <-               | seats -= 1   | -> 13
-         6 <-               | agent1 += 1  | -> 4
-         7 <-               | P semaphore  | end 101
-         begin 102          | skip         | -> 8
-         8;9 <- agent2 == 0 | V semaphore  | seats > 0 -> 10;12
-         10 <-              | seats -= 1   | -> 14
-         11 <-              | agent2 += 1  | -> 9
-         12 <-              | P semaphore  | end 102
-         13 <-              | P semaphore  | -> 6
-         14 <-              | P semaphore  | -> 11",
-    );
-    Run::new(image, &[])
+    Run::new(programs::figure_8(), &[])
 }
 
 /// Table 3: process, the paper's block, then seats, agent1 and agent2 after the step.

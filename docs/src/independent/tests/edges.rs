@@ -2,6 +2,7 @@
 
 mod common;
 
+use common::programs::*;
 use common::*;
 use independent::*;
 
@@ -152,26 +153,6 @@ fn v_needs_exactly_0_and_p_exactly_1() {
             }
         }
     }
-}
-
-/// Main calls so many labels, each of which calls label 200 so many times.
-fn two_levels(labels: u8, times: usize) -> Vec<u8> {
-    let named: Vec<String> = (1..=labels).map(|label| label.to_string()).collect();
-    let named = named.join(" ");
-    let mut text = format!(
-        "begin 0 | skip | -> 50
-         50 <- | call {named} | -> 51
-         51 <- | skip | end 0
-         begin 200 | skip | end 200\n"
-    );
-    for label in 1..=labels {
-        let (first, second) = (60 + label, 80 + label);
-        let leaves = "200 ".repeat(times);
-        text += &format!("begin {label} | skip | -> {first}\n");
-        text += &format!("{first} <- | call {leaves} | -> {second}\n");
-        text += &format!("{second} <- | skip | end {label}\n");
-    }
-    assemble(&text)
 }
 
 #[test]

@@ -12,19 +12,9 @@ const Y: u32 = 1;
 const Z: u32 = 2;
 const ROOT: u32 = 0;
 
-/// Blocks 0 to 6 are the paper's b1 to b7; sub0, sub1 and sub2 are labels 10, 11 and 12.
+/// Started on zeros; blocks 0 to 6 are the paper's b1 to b7.
 fn figure_3() -> Run {
-    let image = assemble_named(
-        &["x", "y", "z"],
-        "begin 0  | skip          | -> 1
-         1 <-     | call 10 11 12 | -> 2
-         2 <-     | skip          | end 0
-         begin 10 | x += 1        | -> 3
-         3 <-     | x += 1        | end 10
-         begin 11 | y += x        | end 11
-         begin 12 | z += x        | end 12",
-    );
-    Run::new(image, &[])
+    Run::new(programs::figure_3(), &[])
 }
 
 fn write_edge(from: Option<Node>, resource: u32, to: Node) -> Edge {

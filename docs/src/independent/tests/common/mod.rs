@@ -2,6 +2,8 @@
 //! against the list and the byte variants, and a small source of random numbers.
 #![allow(dead_code)] // Each test file uses a part of it.
 
+pub mod programs;
+
 use independent::*;
 
 /// The stages of a process.

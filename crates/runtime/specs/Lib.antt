@@ -1,0 +1,4 @@
+-- Definitions that the contracts of starting and stepping cite.
+pub mod Outcome
+pub mod Known
+pub mod Readiness

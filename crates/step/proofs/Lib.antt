@@ -1,0 +1,10 @@
+pub mod Holds
+pub mod Named
+pub mod ByIdentifier
+pub mod Steps
+pub mod First
+pub mod Ways
+pub mod Making
+pub mod Freeing
+pub mod Calling
+pub mod Looking

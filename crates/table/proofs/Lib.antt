@@ -1,0 +1,4 @@
+-- Laws that the proofs of the list cite.
+pub mod Numbered
+pub mod Listed
+pub mod Lists

@@ -1,0 +1,2 @@
+-- Laws of the boundary.
+pub mod Lent

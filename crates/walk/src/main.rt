@@ -1,0 +1,4 @@
+// The session program, document 01: `prog.cril` and `first.mem` in the current folder, commands on standard input.
+fn main() {
+    console::play();
+}
