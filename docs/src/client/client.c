@@ -1,5 +1,5 @@
 /* A C client of the whole header: judges a few images whose answers document 01 gives, starts a machine and runs the worked session
- * on it, tries refusals, and fails where an answer or a lent byte differs. */
+ * on it, lists what its processes could do, tries refusals, and fails where an answer or a lent byte differs. */
 #include <stdio.h>
 #include <string.h>
 
@@ -108,6 +108,55 @@ static void run_refusals(const uint8_t *image, size_t length)
     keeps("step, undo at begin", before, tillerwrap_step(image, length, 0, TILLERWRAP_UNDO, machine, MACHINE), 21, 0);
 }
 
+/* The rows lent to a list stand between guard rows; all of them hold the guard's bytes before. */
+enum { ROWS = TILLERWRAP_ROW_COUNT };
+static struct tillerwrap_row row_room[1 + ROWS + 1];
+static struct tillerwrap_row *const rows = row_room + 1;
+
+/* A list's code, and all rows after it: the wanted ones and then zeros or, where it is refused, as they were. */
+static void lists(const char *what, uint32_t got, uint32_t code, const struct tillerwrap_row *wanted, size_t count)
+{
+    struct tillerwrap_row expected[1 + ROWS + 1];
+    memset(expected, GUARD_BYTE, sizeof expected);
+    if (code == 0) {
+        memset(expected + 1, 0, ROWS * sizeof expected[0]);
+        memcpy(expected + 1, wanted, count * sizeof expected[0]);
+    }
+    if (got != code || memcmp(expected, row_room, sizeof expected) != 0) {
+        printf("%s: %u, or other rows\n", what, (unsigned)got);
+        failures++;
+    }
+    memset(row_room, GUARD_BYTE, sizeof row_room);
+}
+
+/* After the worked session's first four steps: the root can merge, 1 can go back, and 1's step holds that of 2. */
+static void run_lists(const uint8_t *image, size_t length)
+{
+    static const uint32_t processes[] = {0, 0, 2, 1};
+    static const struct tillerwrap_row ended[] = {
+        {0, TILLERWRAP_ACCEPTED, TILLERWRAP_CHILDREN},
+        {1, TILLERWRAP_STAGE, TILLERWRAP_ACCEPTED},
+        {2, TILLERWRAP_STAGE, TILLERWRAP_HELD},
+    };
+    static uint8_t before[TILLERWRAP_MACHINE_BYTES];
+    size_t i;
+    memset(row_room, GUARD_BYTE, sizeof row_room);
+    answers("start to list", tillerwrap_start(image, length, zeros, sizeof zeros, machine, MACHINE), 0, 0);
+    for (i = 0; i < sizeof processes / sizeof processes[0]; i++)
+        answers("step to list", tillerwrap_step(image, length, processes[i], TILLERWRAP_FORWARD, machine, MACHINE), 0, 0);
+    memcpy(before, machine, MACHINE);
+    lists("list", tillerwrap_list(image, length, machine, MACHINE, rows, ROWS), 0, ended, 3);
+    lists("list, cut image", tillerwrap_list(image, length - 1, machine, MACHINE, rows, ROWS), 3, NULL, 0);
+    lists("list, 63 rows", tillerwrap_list(image, length, machine, MACHINE, rows, ROWS - 1), 16, NULL, 0);
+    lists("list, short machine", tillerwrap_list(image, length, machine, MACHINE - 4, rows, ROWS), 16, NULL, 0);
+    if (memcmp(before, machine, MACHINE) != 0) {
+        printf("a list wrote to the machine\n");
+        failures++;
+    }
+    machine[4 * TILLERWRAP_LIVE_COUNT] = 2;
+    lists("list, one row too many", tillerwrap_list(image, length, machine, MACHINE, rows, ROWS), 17, NULL, 0);
+}
+
 int main(void)
 {
     static const uint8_t smallest[] = {0x22, 0x00, 0x47, 0x32, 0x00};
@@ -134,6 +183,7 @@ int main(void)
     set_guards();
     run_session(worked, sizeof worked);
     run_refusals(worked, sizeof worked);
+    run_lists(worked, sizeof worked);
     look_at_guards();
     printf("client: %d failed\n", failures);
     return failures != 0;

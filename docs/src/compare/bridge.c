@@ -9,25 +9,30 @@
 
 #include "tillerwrap.h"
 
-enum function { JUDGE, START, STEP };
+enum function { JUDGE, START, STEP, LIST };
 /* What is wanted: the answer; the nanoseconds of the quickest of a round of calls; the bytes of stack of one. */
 enum wanted { ANSWER, TIME, STACK };
 
-/* A call is these words, then the bytes of the image, of the first memory and of the machine. */
+/* A call is these words, then three slices: the image; what else is only read, a first memory or the machine of a list; and what is
+ * lent to be written, a machine or the rows of a list. */
 struct call {
-    uint32_t function, wanted, image_length, first_length, machine_length, process, direction;
+    uint32_t function, wanted, image_length, given_length, lent_length, process, direction;
 };
 
-/* What is written: these words, then the bytes of the machine. */
+/* What is written: these words, then the bytes of what was lent. Kept says whether all else is as it was. */
 struct answer {
-    uint32_t code, place, blocks, peak, guards, measured;
+    uint32_t code, place, blocks, peak, kept, measured;
 };
 
-enum { LARGEST = 1 << 17, GUARD = 64, GUARD_BYTE = 0xA5 };
+enum { ROW = sizeof(struct tillerwrap_row), ROOM_ROWS = 8192, LARGEST = ROOM_ROWS * ROW, GUARD_BYTE = 0xA5 };
+enum { GUARD_ROWS = 6, GUARD = GUARD_ROWS * ROW };
 static const double ROUND = 20e6;
 
-static uint8_t image[LARGEST], first[LARGEST], before[LARGEST], room[LARGEST + 2 * GUARD];
-static uint8_t *const machine = room + GUARD;
+/* What is read, with a copy to compare it with; what is to be lent; and the room that it is lent in, between guard rows. */
+static uint8_t image[LARGEST], given[LARGEST], image_before[LARGEST], given_before[LARGEST], before[LARGEST];
+static struct tillerwrap_row room[GUARD_ROWS + ROOM_ROWS + GUARD_ROWS];
+static struct tillerwrap_row *const rows = room + GUARD_ROWS;
+static uint8_t *const lent = (uint8_t *)(room + GUARD_ROWS);
 
 static int take(uint8_t *bytes, uint32_t length)
 {
@@ -36,13 +41,13 @@ static int take(uint8_t *bytes, uint32_t length)
 
 static int take_call(struct call *c)
 {
-    return fread(c, sizeof *c, 1, stdin) == 1 && take(image, c->image_length) && take(first, c->first_length) &&
-           take(before, c->machine_length);
+    return fread(c, sizeof *c, 1, stdin) == 1 && take(image, c->image_length) && take(given, c->given_length) &&
+           take(before, c->lent_length);
 }
 
 static void make_ready(const struct call *c)
 {
-    memcpy(machine, before, c->machine_length);
+    memcpy(lent, before, c->lent_length);
 }
 
 static struct answer make(const struct call *c)
@@ -55,26 +60,36 @@ static struct answer make(const struct call *c)
         return a;
     }
     if (c->function == START)
-        got = tillerwrap_start(image, c->image_length, first, c->first_length, machine, c->machine_length);
+        got = tillerwrap_start(image, c->image_length, given, c->given_length, lent, c->lent_length);
     if (c->function == STEP)
-        got = tillerwrap_step(image, c->image_length, c->process, c->direction, machine, c->machine_length);
+        got = tillerwrap_step(image, c->image_length, c->process, c->direction, lent, c->lent_length);
+    if (c->function == LIST)
+        got.code = tillerwrap_list(image, c->image_length, given, c->given_length, rows, c->lent_length / ROW);
     a.code = got.code, a.place = got.place;
     return a;
 }
 
-/* Makes the call between guards, and says whether they were left alone. */
+static int are_guards(const uint8_t *bytes)
+{
+    int i, kept = 1;
+    for (i = 0; i < GUARD; i++)
+        kept &= bytes[i] == GUARD_BYTE;
+    return kept;
+}
+
+/* Makes the call between guards, and says whether they and what is only read were left alone. */
 static struct answer make_guarded(const struct call *c)
 {
     struct answer a;
-    uint8_t *end = machine + c->machine_length;
-    int i;
+    uint8_t *end = lent + c->lent_length;
     make_ready(c);
+    memcpy(image_before, image, c->image_length);
+    memcpy(given_before, given, c->given_length);
     memset(room, GUARD_BYTE, GUARD);
     memset(end, GUARD_BYTE, GUARD);
     a = make(c);
-    a.guards = 1;
-    for (i = 0; i < GUARD; i++)
-        a.guards &= room[i] == GUARD_BYTE && end[i] == GUARD_BYTE;
+    a.kept = are_guards((const uint8_t *)room) && are_guards(end) && memcmp(image_before, image, c->image_length) == 0 &&
+             memcmp(given_before, given, c->given_length) == 0;
     return a;
 }
 
@@ -88,7 +103,7 @@ static double now(void)
 /* Nanoseconds of the quickest call of a round. Making ready for it is not measured. */
 static uint32_t timed(const struct call *c)
 {
-    double spent = 0, best = ROUND;
+    double spent = 0, best = UINT32_MAX;
     while (spent < ROUND) {
         double took;
         make_ready(c);
@@ -141,7 +156,7 @@ int main(void)
         if (c.wanted != ANSWER)
             make_ready(&c);
         fwrite(&a, sizeof a, 1, stdout);
-        fwrite(machine, 1, c.machine_length, stdout);
+        fwrite(lent, 1, c.lent_length, stdout);
         fflush(stdout);
     }
     return 0;

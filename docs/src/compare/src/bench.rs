@@ -1,6 +1,7 @@
-//! How long judging, starting and stepping take, ours beside the independent program's in the same run, and the stack of a call.
+//! How long judging, starting, stepping and listing take, ours beside the independent program's in the same run, and the stack of
+//! a call.
 
-use independent::{ENTRIES, WORDS};
+use independent::{ENTRIES, ROWS, WORDS};
 
 use crate::hostile;
 use crate::layout::{Entry, Parts};
@@ -16,9 +17,7 @@ const LATER: [usize; 4] = [10, 100, 1000, 4000];
 pub fn print(library: &mut Library) {
     heading("image");
     for (name, image) in hostile::images() {
-        let call = Call::Judge(&image);
-        let code = library.call(call, &mut []).code;
-        line(library, name, code, call, &[]);
+        line(library, name, Call::Judge(&image), &[]);
     }
     println!();
     heading("call");
@@ -27,6 +26,9 @@ pub fn print(library: &mut Library) {
     for case in cases.iter().flatten() {
         case.print(library);
     }
+    for case in listed_cases() {
+        case.print_list(library);
+    }
 }
 
 fn heading(first: &str) {
@@ -34,12 +36,13 @@ fn heading(first: &str) {
     println!("|---|---|---|---|---|---|");
 }
 
-fn line(library: &mut Library, name: &str, code: u32, call: Call, machine: &[u8]) {
+fn line(library: &mut Library, name: &str, call: Call, lent: &[u8]) {
+    let code = library.call(call, &mut lent.to_vec()).code;
     let Measured {
         ours,
         theirs,
         stack,
-    } = measure(library, call, machine);
+    } = measure(library, call, lent);
     let ratio = ours / theirs;
     println!("| {name} | {code} | {ours:.1} | {theirs:.1} | {ratio:.1} | {stack} |");
 }
@@ -48,12 +51,10 @@ fn starting(library: &mut Library) {
     let image = hostile::worked();
     let first = [0; 4 * independent::FIRST_WORDS];
     let call = Call::Start(&image, &first);
-    let machine = vec![0; 4 * WORDS];
-    let code = library.call(call, &mut machine.clone()).code;
-    line(library, "start, the 40-byte image", code, call, &machine);
+    line(library, "start, the 40-byte image", call, &[0; 4 * WORDS]);
 }
 
-/// One call of stepping, measured on the same machine each time.
+/// One call of stepping or listing, measured on the same machine each time.
 #[derive(Clone)]
 struct Case {
     name: String,
@@ -99,16 +100,29 @@ impl Case {
         self
     }
 
-    fn call(mut self, name: impl Into<String>, process: u32, direction: u32) -> Case {
-        (self.name, self.process, self.direction) = (name.into(), process, direction);
+    fn named(mut self, name: impl Into<String>) -> Case {
+        self.name = name.into();
         self
     }
 
+    fn call(mut self, name: impl Into<String>, process: u32, direction: u32) -> Case {
+        (self.process, self.direction) = (process, direction);
+        self.named(name)
+    }
+
+    fn bytes(&self) -> Vec<u8> {
+        self.machine.iter().flat_map(|w| w.to_le_bytes()).collect()
+    }
+
     fn print(&self, library: &mut Library) {
-        let machine: Vec<u8> = self.machine.iter().flat_map(|w| w.to_le_bytes()).collect();
         let call = Call::Step(&self.image, self.process, self.direction);
-        let code = library.call(call, &mut machine.clone()).code;
-        line(library, &self.name, code, call, &machine);
+        line(library, &self.name, call, &self.bytes());
+    }
+
+    fn print_list(&self, library: &mut Library) {
+        let machine = self.bytes();
+        let call = Call::List(&self.image, &machine);
+        line(library, &self.name, call, &[0; 12 * ROWS]);
     }
 }
 
@@ -144,19 +158,36 @@ fn history_cases() -> Vec<Case> {
     cases
 }
 
-/// As many live processes as there can be, each with a step of its own, and older entries before them.
-fn crowded_cases() -> Vec<Case> {
+/// As many live processes as there can be, each with a step of its own.
+fn crowded() -> Case {
     let mut case = Case::new(hostile::crowded()).after(&[0, 0]);
     for process in 1..=7 {
         case = case.after(&[process, process]);
         let children: Vec<u32> = (1..=8).map(|child| 16 * process + child).collect();
         case = case.after(&children);
     }
+    case
+}
+
+/// The same, and with older entries before the steps.
+fn crowded_cases() -> Vec<Case> {
+    let case = crowded();
     let full = case.clone().padded(ENTRIES - 1);
     vec![
         case.call("a merge among 64 live processes", 1, FORWARD),
         full.clone()
             .call("the same with 4,095 kept steps", 1, FORWARD),
         full.call("an undo there", 0x78, UNDO),
+    ]
+}
+
+fn listed_cases() -> Vec<Case> {
+    let forked = Case::new(hostile::worked()).after(&[0, 0]);
+    let full = crowded().padded(ENTRIES - 1);
+    vec![
+        Case::new(hostile::worked()).named("a list, the 40-byte image"),
+        forked.named("the same after its fork"),
+        crowded().named("a list of 64 live processes"),
+        full.named("the same with 4,095 kept steps"),
     ]
 }

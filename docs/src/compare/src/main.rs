@@ -10,6 +10,7 @@ mod hostile;
 mod judging;
 mod layout;
 mod library;
+mod listing;
 mod lively;
 mod measure;
 mod program;
@@ -31,7 +32,7 @@ fn main() {
     let seed = numbers.next().unwrap_or(1);
     let count = numbers.next().unwrap_or(200_000) as usize;
     let judging = judging::compare(&mut library, &mut Random::new(seed), count);
-    let stepping = stepping::compare(&mut library, &mut Random::new(seed), count);
+    let stepping = stepping::compare(&mut library, seed, count);
     if !judging || !stepping {
         std::process::exit(1);
     }

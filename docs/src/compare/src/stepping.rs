@@ -1,5 +1,5 @@
 //! Starting and stepping compared through the boundary: the answer and every byte of the machine, on machines that runs reach,
-//! on machines that only fit, on damaged ones, on wrong lengths and on refused images.
+//! on machines that only fit, on damaged ones, on wrong lengths and on refused images. listing.rs has the lists beside the steps.
 
 use independent::{Answer, HISTORY_WORD, LIVE_WORD, ROW_WORD, WORDS};
 
@@ -30,14 +30,18 @@ const WRONG_LENGTHS: [usize; 11] = [
     4 * WORDS + 4,
     8 * WORDS,
 ];
+/// How many steps there are to one with a list before it: a list of a machine that fits takes as long as many steps.
+const SELDOM: usize = 30;
+const ALWAYS: usize = 1;
 /// A comparison of so many steps has one run among them that fills the history by itself.
 const LONG_RUN: usize = 100_000;
 
 /// Compares at least `count` steps. False where anything differs, or where a code or clause that can occur is missing.
-pub fn compare(library: &mut Library, random: &mut Random, count: usize) -> bool {
+pub fn compare(library: &mut Library, seed: u64, count: usize) -> bool {
     let mut comparison = Comparison {
         library,
-        random,
+        random: &mut Random::new(seed),
+        for_lists: Random::new(!seed),
         tally: Tally::default(),
     };
     match comparison.run(count) {
@@ -49,10 +53,11 @@ pub fn compare(library: &mut Library, random: &mut Random, count: usize) -> bool
     }
 }
 
-struct Comparison<'a> {
-    library: &'a mut Library,
+pub struct Comparison<'a> {
+    pub library: &'a mut Library,
     random: &'a mut Random,
-    tally: Tally,
+    pub for_lists: Random,
+    pub tally: Tally,
 }
 
 /// A program, its places, how often of ten a step of its session goes forward, and how many were refused in a row.
@@ -77,7 +82,7 @@ fn word(machine: &[u8], at: usize) -> u32 {
 }
 
 /// What is said where two outcomes differ.
-fn alike(
+pub fn alike(
     what: &str,
     image: &[u8],
     ours: (Answer, &[u8]),
@@ -95,6 +100,7 @@ fn alike(
 
 impl Comparison<'_> {
     fn run(&mut self, count: usize) -> Result<(), String> {
+        self.list_a_crowd()?;
         if count >= LONG_RUN {
             self.fill_the_history()?;
         }
@@ -107,7 +113,7 @@ impl Comparison<'_> {
     }
 
     /// One call of stepping, both ways; the machine is then as it leaves it.
-    fn step(
+    pub fn step(
         &mut self,
         image: &[u8],
         machine: &mut [u8],
@@ -125,7 +131,12 @@ impl Comparison<'_> {
         Ok(ours)
     }
 
-    fn start(&mut self, image: &[u8], first: &[u8], machine: &mut [u8]) -> Result<Answer, String> {
+    pub fn start(
+        &mut self,
+        image: &[u8],
+        first: &[u8],
+        machine: &mut [u8],
+    ) -> Result<Answer, String> {
         let mut other = machine.to_vec();
         let ours = self.library.call(Call::Start(image, first), machine);
         let theirs = independent::start_bytes(image, first, &mut other);
@@ -151,11 +162,12 @@ impl Comparison<'_> {
                 }
             }
             self.look(&machine);
+            self.list(&image, &machine, independent::ROWS)?;
         }
         Ok(())
     }
 
-    fn look(&mut self, machine: &[u8]) {
+    pub fn look(&mut self, machine: &[u8]) {
         let live = word(machine, LIVE_WORD);
         let last = word(machine, ROW_WORD + 3 * (live as usize - 1));
         let tally = &mut self.tally;
@@ -192,6 +204,7 @@ impl Comparison<'_> {
         let mut machine = self.started(&session.image)?;
         for _ in 0..turns {
             self.turn(&mut session, &mut machine)?;
+            self.other_row_count(&session.image, &machine)?;
             self.look(&machine);
         }
         Ok(())
@@ -212,7 +225,7 @@ impl Comparison<'_> {
     /// A step of the session. Where many were refused it turns round, and now and then it does so anyway.
     fn walk(&mut self, session: &mut Session, machine: &mut [u8]) -> Result<(), String> {
         let (process, direction) = self.command(session, machine);
-        let answer = self.step(&session.image, machine, process, direction)?;
+        let answer = self.listed_step(&session.image, machine, process, direction, SELDOM)?;
         session.refused = if answer.code == 0 {
             0
         } else {
@@ -259,7 +272,7 @@ impl Comparison<'_> {
         let length = self.random.one_of(&WRONG_LENGTHS);
         let mut other = machine.to_vec();
         other.resize(length, 0);
-        self.step(&session.image, &mut other, process, direction)
+        self.listed_step(&session.image, &mut other, process, direction, ALWAYS)
             .map(drop)
     }
 
@@ -272,7 +285,8 @@ impl Comparison<'_> {
         let length = self.random.one_of(&[0, 4, MACHINE_BYTES, MACHINE_BYTES]);
         let mut other = machine.to_vec();
         other.resize(length, 0);
-        self.step(&bytes, &mut other, process, direction).map(drop)
+        self.listed_step(&bytes, &mut other, process, direction, ALWAYS)
+            .map(drop)
     }
 
     fn damaged(&mut self, session: &Session, machine: &[u8]) -> Result<(), String> {
@@ -313,8 +327,10 @@ impl Comparison<'_> {
     ) -> Result<Vec<u32>, String> {
         let broken = clauses::broken(words, &session.layout);
         let mut machine = bytes_of(words);
-        let answer = self.step(&session.image, &mut machine, process, direction)?;
-        if broken.contains(&true) != (answer.code == 17) {
+        let is_broken = broken.contains(&true);
+        let rarity = if is_broken { ALWAYS } else { SELDOM };
+        let answer = self.listed_step(&session.image, &mut machine, process, direction, rarity)?;
+        if is_broken != (answer.code == 17) {
             let image = &session.image;
             return Err(format!(
                 "{answer:?} for the clauses {broken:?}; image {image:02x?}"
