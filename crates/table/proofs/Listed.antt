@@ -1,11 +1,12 @@
 -- The list by the number of its lent rows: its answer, and the rows that it leaves where it is accepted. Assumes nothing.
-use Prim.Native.Nat.{ℕ, zero, suc, _+_, _-_, _<_}
+use Prim.Native.Nat.{ℕ, zero, suc, _+_, _-_, _<_, _≤_}
 use native.Mathlib.Omega.{arith}
 use native.Mathlib.Nat.{not-suc-le-zero, le-of-suc-le-suc}
 use mathlib.Core.Path.{_≡_, refl, sym, ap, _∙_}
 use mathlib.Core.Bool.{Bool, true, false, _&&_}
-use mathlib.Core.List.{List, map}
+use mathlib.Core.List.{List, map, _++_}
 use lib.ListN.{length, getD, replicate, length-replicate, length-append, length-map, getD-replicate}
+use lib.Seq.{getD-append-add}
 use lib.Dec.{eqb, leb}
 use borrow.Author.Tests.{eq-eqb, ne-eqb, leb-true, eqb-true}
 use Rattle.rules.specs.Base.{pick}
@@ -242,3 +243,50 @@ module _ (image machine : List ℕ) where
         h
         ∙ ap (λ (o : Outcome (List Row)). o .answer)
         (on-all image machine (replicate n zeroRow) (λ program. refuse 16 0 (replicate n zeroRow)) (short-bytes image machine (replicate n zeroRow) k))
+
+-- ---- past the live processes there is no row
+any-zero : (n k : ℕ) → getD (replicate n zeroRow) k zeroRow ≡ zeroRow
+any-zero zero k = refl
+any-zero (suc n) zero = refl
+any-zero (suc n) (suc k) = any-zero n k
+
+past-rows : (program : List Block) (w : List ℕ) (k : ℕ) → liveCount w ≤ k → getD (rowsOf program (view w)) k zeroRow ≡ zeroRow
+unfolding rowsOf
+past-rows program w k l =
+    let R : List Row = map (rowOf program (view w)) (view w .rows) in
+    let m : length R ≡ length (view w .rows) = length-map (view w .rows) (rowOf program (view w)) in
+    let e : k ≡ length R + (k - length R) = omega (arith, m, length-rows w, l) in
+    ap (λ (j : ℕ). getD (R ++ replicate (64 - length (view w .rows)) zeroRow) j zeroRow) e
+    ∙ getD-append-add R (replicate (64 - length (view w .rows)) zeroRow) (k - length R) zeroRow
+    ∙ any-zero (64 - length (view w .rows)) (k - length R)
+
+module _ (machine : List ℕ) (k : ℕ) (l : liveCount (wordsOf machine) ≤ k) where
+  past-list : (program : List Block) → getD (listIn (wordsOf machine) none program .leaves) k zeroRow ≡ zeroRow
+  unfolding listIn pick
+  past-list program = go (eqb (length (wordsOf machine)) 8674 && eqb (length none) 64) (fits program (wordsOf machine))
+    where
+      go : (a b : Bool)
+          → getD (pick a (pick b (accept (rowsOf program (view (wordsOf machine)))) (refuse 17 0 none)) (refuse 16 0 none) .leaves) k zeroRow ≡ zeroRow
+      go true true = past-rows program (wordsOf machine) k l
+      go true false = any-zero 64 k
+      go false b = any-zero 64 k
+
+  past-bytes : (program : List Block) → getD (listBytesIn machine none program .leaves) k zeroRow ≡ zeroRow
+  unfolding listBytesIn pick
+  past-bytes program = go (hasWords machine 8674)
+    where
+      go : (a : Bool) → getD (pick a (listIn (wordsOf machine) none program) (refuse 16 0 none) .leaves) k zeroRow ≡ zeroRow
+      go true = past-list program
+      go false = any-zero 64 k
+
+  pub row-past : (image : List ℕ) → zeroRow ≡ rowFor image machine k
+  unfolding listed listBytes onImage
+  row-past image = sym (read (decoded image))
+    where
+      judged : (j : Judgement) (program : List Block) → getD (judgedThen j none (listBytesIn machine none program) .leaves) k zeroRow ≡ zeroRow
+      judged (Judgement.Refused code place) program = any-zero 64 k
+      judged (Judgement.Accepted blocks peak) program = past-bytes program
+
+      read : (r : Reading (List Block)) → getD (readThen r none (listBytesIn machine none) .leaves) k zeroRow ≡ zeroRow
+      read (got program at) = judged (judgedBlocks program) program
+      read (fault code place) = any-zero 64 k

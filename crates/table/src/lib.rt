@@ -3,7 +3,10 @@
 ghost use mathlib.Core.Path.{_≡_};
 ghost use mathlib.Core.List.{List};
 ghost use Prim.Native.Nat.{_<_};
-ghost use Rattle.rules.specs.Words.{refuse, onImage};
+ghost use lib.ListN.{length};
+ghost use Rattle.rules.specs.Machine.{liveCount};
+ghost use Rattle.rules.specs.Words.{refuse, onImage, wordsOf};
+ghost use Rattle.rules.specs.List.{zeroRow};
 ghost use Rattle.rules.specs.declared.Row as Rules;
 ghost use Rattle.table.specs.Listed.{listAnswer, listCode, rowFor};
 use rules::Answer;
@@ -52,17 +55,41 @@ pub fn list_code(image: &[u8], machine: &[u8], n: usize) -> u32
     answer.code
 }
 
+fn wide(x: u32) -> usize
+    ensures { λ r. ⌜ r ≡ x ⌝ }
+{
+    x as usize
+}
+
+// How many processes are live.
+fn live_count(machine: &[u8]) -> usize
+    requires { ⌜ length (now machine) ≡ 34696 ⌝ }
+    ensures { λ r. ⌜ r ≡ liveCount (wordsOf (now (machine .entry))) ⌝ }
+{
+    wide(bytes::word_at(machine, 0))
+}
+
+// The row of no process.
+fn no_row() -> Row
+    ensures { λ r. ⌜ r ≡ zeroRow ⌝ }
+{
+    Row {
+        identifier: 0,
+        forward: 0,
+        undo: 0,
+    }
+}
+
 // Row k of an accepted list; a row of zeros where the list is refused.
 pub fn row_for(image: &[u8], machine: &[u8], k: usize) -> Row
     requires { ⌜ k < 64 ⌝ }
     ensures { λ r. ⌜ r ≡ rowFor (now (image .entry)) (now (machine .entry)) k ⌝ }
 {
     if machine.len() != MACHINE_BYTES {
-        return Row {
-            identifier: 0,
-            forward: 0,
-            undo: 0,
-        };
+        return no_row();
+    }
+    if live_count(machine) <= k {
+        return no_row();
     }
     let mut words = [0u32; 8674];
     bytes::words_of(machine, &mut words);

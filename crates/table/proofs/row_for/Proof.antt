@@ -1,13 +1,29 @@
 -- `table::row_for` meets its contract: a row of the readiness answers. Assumes nothing.
-use Rattle.table.proofs.Listed.{row-short, row-ready}
+use mathlib.Core.Path.{_∙_}
+use native.Mathlib.Omega.{arith}
+use Rattle.table.proofs.Listed.{row-short, row-past, row-ready}
 use borrow.Author.Needs.{needs}
 use Rattle.table.proofs.row_for.Statement.{statement}
 use Rattle.table.proofs.row_for.Tie as tie
 
+no-row-requires : tie.Need-no-row-requires
+no-row-requires c κs = search needs
+
 returns : tie.Need-returns
 returns c =
-    let a = c .before .before .before .args in
-    row-short (a .image .now) (a .machine .now) (c .if1 .taken) (a .k) (c .before .before .before .pre)
+    let a = c .before .before .before .before .args in
+    c .no-row .ensures ∙ row-short (a .image .now) (a .machine .now) (c .before .if1 .taken) (a .k) (c .before .before .before .before .pre)
+
+live-count-requires : tie.Need-live-count-requires
+live-count-requires c κs = search needs
+
+no-row-requires-2 : tie.Need-no-row-requires-2
+no-row-requires-2 c κs = search needs
+
+returns-2 : tie.Need-returns-2
+returns-2 c =
+    let a = c .before .before .before .before .before .before .args in
+    c .no-row2 .ensures ∙ row-past (a .machine .now) (a .k) (omega arith) (a .image .now)
 
 slice-aggregate-words-of : tie.Need-slice-aggregate-words-of
 slice-aggregate-words-of c = search needs
@@ -39,16 +55,20 @@ mul-t23 c = search needs
 array-read-t26 : tie.Need-array-read-t26
 array-read-t26 c = search needs
 
-returns-2 : tie.Need-returns-2
-returns-2 c =
-    let a = c .before .before .before .before .before .before .before .before .before .before .before .args in
-    row-ready (a .image .now) (a .machine .now) (c .before .before .before .before .before .before .before .before .if1 .left) (c .before .before .before .ready .result) _ (c .before .before .before .before .before .before .words-of .ensures) (c .before .before .before .ready .ensures) (a .k) (c .before .before .before .before .before .before .before .before .before .before .before .pre)
+returns-3 : tie.Need-returns-3
+returns-3 c =
+    let a = c .before .before .before .before .before .before .before .before .before .before .before .before .before .args in
+    row-ready (a .image .now) (a .machine .now) (c .before .before .before .before .before .before .before .before .before .before .if1 .left) (c .before .before .before .ready .result) _ (c .before .before .before .before .before .before .words-of .ensures) (c .before .before .before .ready .ensures) (a .k) (c .before .before .before .before .before .before .before .before .before .before .before .before .before .pre)
 
 pub row-for-spec : {M : Type 1} → statement M
 row-for-spec =
     tie.close
     (tie.spec
+    no-row-requires
     returns
+    live-count-requires
+    no-row-requires-2
+    returns-2
     slice-aggregate-words-of
     words-of-requires
     slice-aggregate-ready
@@ -59,4 +79,4 @@ row-for-spec =
     array-read-t22
     mul-t23
     array-read-t26
-    returns-2)
+    returns-3)
