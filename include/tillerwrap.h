@@ -145,7 +145,7 @@ struct tillerwrap_judged {
  *
  * The answer is exactly that of the scope document: the first fault of codes 1 to 8 in byte order with the offset of its
  * record; else the first of the codes 9 to 15 that some block gives, one code at a time, with the lowest such block; else
- * code 0 with the number of blocks and main's peak. Nothing is written. No image takes more than about a millisecond.
+ * code 0 with the number of blocks and main's peak. Nothing is written.
  */
 struct tillerwrap_judged tillerwrap_judge(const uint8_t *image, size_t length);
 
