@@ -18,7 +18,7 @@ use Rattle.laws.specs.CallTable.{callingFrom}
 use Rattle.laws.proofs.Search.{lt-or-le}
 use Rattle.laws.proofs.CallTable.{calls-length}
 use Rattle.calls.specs.Grid.{bits, words, bitOf, cell, rowOf, withRow, Word, RowDone, RowsDone, joined, added, Reaching}
-use Rattle.calls.proofs.Tests.{flag-or-and, flag-one, flag-other}
+use Rattle.laws.proofs.Tests.{flag-or-and, flag-one, flag-other}
 
 -- ---- bits
 bit-first : (w v : ℕ) → v ≤ 1 → bitOf (2 * w + v) 0 ≡ v

@@ -14,11 +14,11 @@ use Rattle.rules.specs.Base.{pick}
 use Rattle.rules.specs.Format.{main}
 use Rattle.rules.specs.Calls.{Calling, homeAt, callsAt, sumOf, deepestOf, largest, depth, peak, bad15, deepest, mostRows}
 use Rattle.laws.proofs.Search.{lt-or-le}
-use Rattle.calls.specs.Acyclic.{Acyclic}
+use Rattle.laws.specs.Acyclic.{Acyclic}
 use Rattle.calls.specs.Peaks.{over, levelsTried, peakWithin, capped, MainPeak}
-use Rattle.calls.proofs.Tests.{never}
-use Rattle.calls.proofs.Rank.{largest-same, largest-above}
-use Rattle.calls.proofs.PeakRight.{peak-right}
+use Rattle.laws.proofs.Tests.{never}
+use Rattle.laws.proofs.Rank.{largest-same, largest-above}
+use Rattle.laws.proofs.PeakRight.{peak-right}
 
 -- ---- where what is at least d deep is over, so is the sum of a call that goes deeper
 sum-over : (f g : ℕ → ℕ) (d : ℕ) (ls : List ℕ) → ((l : ℕ) → d ≤ f l → over ≤ g l) → d < deepestOf f ls → over ≤ sumOf g ls

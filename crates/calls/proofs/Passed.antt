@@ -9,7 +9,7 @@ use Rattle.rules.specs.Base.{pick, lowestFrom, lowest}
 use Rattle.rules.specs.Calls.{bad14}
 use Rattle.laws.specs.CallTable.{callingFrom}
 use Rattle.laws.proofs.CallTable.{calls-length}
-use Rattle.calls.specs.Acyclic.{Acyclic}
+use Rattle.laws.specs.Acyclic.{Acyclic}
 
 module _ (p : ℕ → Bool) where
   none-from : (n at : ℕ) → at + n ≤ lowestFrom p n at → (k : ℕ) → k < n → p (at + k) ≡ false

@@ -17,7 +17,7 @@ use Rattle.rules.specs.Calls.{sumOf, reachesOver}
 use Rattle.laws.specs.CallTable.{callingFrom}
 use Rattle.laws.proofs.CallTable.{calls-at}
 use Rattle.calls.specs.Table.{Tabled}
-use Rattle.calls.proofs.Tests.{never, or-true, or-left, or-right, or-assoc, or-false}
+use Rattle.laws.proofs.Tests.{never, or-true, or-left, or-right, or-assoc, or-false}
 
 -- ---- some label passes: of one label more, and of a longer part
 some-more : (p : ℕ → Bool) (ls : List ℕ) (x : ℕ) → some-of p (ls ++ x ∷ []) ≡ some-of p ls || p x

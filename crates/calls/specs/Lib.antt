@@ -1,5 +1,4 @@
 -- What the contracts and theorems of this crate cite beside rules and laws.
-pub mod Acyclic
 pub mod Table
 pub mod Grid
 pub mod Peaks

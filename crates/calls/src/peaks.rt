@@ -9,7 +9,7 @@ ghost use lib.Dec.{eqb};
 ghost use Rattle.rules.specs.Base.{pick};
 ghost use Rattle.rules.specs.Calls.{sumOf};
 ghost use Rattle.laws.specs.CallTable.{callingFrom};
-ghost use Rattle.calls.specs.Acyclic.{Acyclic};
+ghost use Rattle.laws.specs.Acyclic.{Acyclic};
 ghost use Rattle.calls.specs.Table.{Tabled};
 ghost use Rattle.calls.specs.Peaks.{over, levelsTried, capped, peakWithin, Memo, MainPeak};
 

@@ -10,12 +10,6 @@ ghost use lib.Dec.{eqb};
 ghost use Rattle.rules.specs.declared.Block.{Block};
 ghost use Rattle.cause.specs.Held.{Masks, Scanned, laterConflict};
 
-pub fn wide(x: u32) -> usize
-    ensures { λ r. ⌜ r ≡ x ⌝ }
-{
-    x as usize
-}
-
 // Whether two masks have a resource in common.
 fn meets(a: u64, b: u64) -> bool
     ensures { λ r. ⌜ r ≡ not (eqb (bitAnd a b) 0) ⌝ }
@@ -38,13 +32,13 @@ pub fn held(m: &[u32], reads: &[u64; 128], writes: &[u64; 128], i: usize) -> boo
     requires { ⌜ Scanned (now m) i 128 ⌝ }
     ensures { λ r. ⌜ ((program : List Block) → Masks program (now (reads .entry)) (now (writes .entry)) → Scanned (now (m .entry)) i (length program) → r ≡ laterConflict program (now (m .entry)) i) ⌝ }
 {
-    let n = wide(m[1]);
-    let b = wide(m[483 + 2 * i]);
+    let n = laws::wide(m[1]);
+    let b = laws::wide(m[483 + 2 * i]);
     let read = reads[b];
     let written = writes[b];
     let mut j = i + 1;
     while j < n {
-        let c = wide(m[483 + 2 * j]);
+        let c = laws::wide(m[483 + 2 * j]);
         if conflict(read, written, reads[c], writes[c]) {
             return true;
         }

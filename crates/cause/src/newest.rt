@@ -6,7 +6,7 @@ pub fn newest(m: &[u32], identifier: u32) -> usize
     requires { ⌜ Long (now m) ⌝ }
     ensures { λ r. ⌜ Newest (now (m .entry)) identifier r ⌝ }
 {
-    let n = super::held::wide(m[1]);
+    let n = laws::wide(m[1]);
     let mut i = n;
     while 0 < i {
         let at = i - 1;

@@ -3,16 +3,12 @@ ghost use mathlib.Core.Path.{_≡_};
 ghost use Prim.Native.Nat.{_≤_};
 ghost use lib.ListN.{length};
 ghost use Rattle.rules.specs.Format.{longest, mostBlocks};
-ghost use Rattle.rules.specs.Labels.{noBlock};
 ghost use Rattle.rules.specs.Read.{blocksAt, decoded};
 ghost use Rattle.decode.specs.Shows.{Refuses, Shows};
 use block::BlockRead;
 use block::block_at;
 use image::Cursor;
 use rules::Block;
-use rules::Entry;
-use rules::Exit;
-use rules::Instruction;
 
 mod block;
 
@@ -27,16 +23,6 @@ pub struct Decoded {
     pub place: u32,
     pub count: usize,
     pub blocks: [Block; 128],
-}
-
-fn no_block() -> Block
-    ensures { λ r. ⌜ r ≡ noBlock ⌝ }
-{
-    Block {
-        entry: Entry::Begin(0),
-        instruction: Instruction::Skip,
-        exit: Exit::End(0),
-    }
 }
 
 // A place in an image fits a word. The blocks mean nothing: the caller's array goes on, so that no second one is made.
@@ -57,7 +43,7 @@ fn blocks_of(s: &[u8]) -> Decoded
     requires { ⌜ length (now s) ≤ longest ⌝ }
     ensures { λ r. ⌜ Shows (blocksAt mostBlocks (now (s .entry)) 0) r ⌝ }
 {
-    let none = no_block();
+    let none = laws::no_block();
     let mut blocks = [none; 128];
     let mut n: usize = 0;
     let mut at: usize = 0;
@@ -89,10 +75,10 @@ pub fn decode(s: &[u8]) -> Decoded
     ensures { λ r. ⌜ Shows (decoded (now (s .entry))) r ⌝ }
 {
     if s.len() == 0 {
-        return refused(1, 0, [no_block(); 128]);
+        return refused(1, 0, [laws::no_block(); 128]);
     }
     if LONGEST < s.len() {
-        return refused(1, 0, [no_block(); 128]);
+        return refused(1, 0, [laws::no_block(); 128]);
     }
     blocks_of(s)
 }

@@ -37,12 +37,6 @@ pub enum Valued {
     Outside,
 }
 
-fn wide(x: u32) -> usize
-    ensures { λ r. ⌜ r ≡ x ⌝ }
-{
-    x as usize
-}
-
 // The value that a place holds once the writes are made.
 pub fn value_at(memory: &[u32], writes: Writes, place: usize) -> u32
     requires { ⌜ place < length (now memory) ⌝ }
@@ -75,7 +69,7 @@ fn cell_place(memory: &[u32], writes: Writes, x: u8) -> Located
 {
     let address = value_at(memory, writes, laws::index(x));
     if address < CELLS {
-        return Located::At(FIRST_CELL + wide(address));
+        return Located::At(FIRST_CELL + laws::wide(address));
     }
     Located::Outside
 }

@@ -17,7 +17,7 @@ use crate::LABEL;
 use crate::STAGE;
 use crate::own::called_count;
 use machine::ROWS;
-use machine::edit::wide;
+use laws::wide;
 use machine::find::row_of;
 use machine::identifier::Identifier;
 

@@ -9,7 +9,7 @@ ghost use Rattle.machine.specs.RowOf.{rowOf};
 ghost use Rattle.fits.specs.Ordered.{Ordered};
 ghost use Rattle.fits.specs.Search.{Identifiers, Around};
 use machine::ROWS;
-use machine::edit::wide;
+use laws::wide;
 
 // Stands where there is no row: no identifier is above it.
 const HIGHEST: u32 = 4294967295;

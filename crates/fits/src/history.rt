@@ -21,7 +21,7 @@ use crate::STAGE;
 use crate::find::identifiers;
 use crate::find::row_in;
 use machine::HISTORY;
-use machine::edit::wide;
+use laws::wide;
 use machine::identifier::Identifier;
 use places::lookup::BEGIN;
 use places::lookup::exit_block;

@@ -17,7 +17,7 @@ use crate::MAIN;
 use crate::MOST_CALLED;
 use crate::STAGE;
 use machine::ROWS;
-use machine::edit::wide;
+use laws::wide;
 use machine::find::row_of;
 use machine::identifier::Identifier;
 use places::lookup::BEGIN;

@@ -13,7 +13,7 @@ use crate::children::tally_of;
 use crate::history::all_newest;
 use crate::history::newest_of;
 use crate::own::all_own;
-use machine::edit::wide;
+use laws::wide;
 use machine::find::row_of;
 use machine::identifier::Identifier;
 

@@ -10,7 +10,7 @@ ghost use Rattle.fits.specs.Ordered.{inOrder};
 use machine::HISTORY;
 use machine::ROWS;
 use machine::WORDS;
-use machine::edit::wide;
+use laws::wide;
 
 // The most rows and the most history entries.
 const MOST_ROWS: u32 = 64;

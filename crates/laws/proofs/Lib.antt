@@ -6,3 +6,8 @@ pub mod Pack
 pub mod Ascending
 pub mod Decoded
 pub mod View
+pub mod Tests
+pub mod Reached
+pub mod Rank
+pub mod PeakRight
+pub mod Words

@@ -2,3 +2,4 @@
 pub mod CallTable
 pub mod Fit
 pub mod Conflict
+pub mod Acyclic

@@ -1,21 +1,10 @@
 // Edits in place: a value of the memory, an entry kept or closed up, a row moved, rows put in and taken out.
+use laws::narrow;
+use laws::wide;
 ghost use mathlib.Core.Path.{_≡_};
 ghost use Prim.Native.Nat.{_+_, _*_, _≤_, _<_};
 ghost use lib.ListN.{length, getD};
 ghost use Rattle.machine.specs.Edit.{writtenWords, keptEntry, closedEntry, movedRow, insertedRows, removedRows};
-
-pub fn wide(x: u32) -> usize
-    ensures { λ r. ⌜ r ≡ x ⌝ }
-{
-    x as usize
-}
-
-pub fn narrow(x: usize) -> u32
-    requires { ⌜ x < 4294967296 ⌝ }
-    ensures { λ r. ⌜ r ≡ x ⌝ }
-{
-    x as u32
-}
 
 // Writes value `at` of the memory.
 pub fn write(m: &mut [u32], at: usize, value: u32)

@@ -10,7 +10,7 @@ pub fn row_of(m: &[u32], identifier: u32) -> usize
     requires { ⌜ (length (now m) ≡ 8674) × (liveCount (now m) ≤ 64) ⌝ }
     ensures { λ r. ⌜ r ≡ rowOf (now (m .entry)) identifier ⌝ }
 {
-    let live = super::edit::wide(m[0]);
+    let live = laws::wide(m[0]);
     let mut i = 0;
     while i < live {
         if m[super::ROWS + 3 * i] == identifier {

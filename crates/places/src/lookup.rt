@@ -17,18 +17,12 @@ pub const END: u32 = 2;
 // One past the highest label.
 const LABELS: u32 = 256;
 
-fn index(label: u32) -> usize
-    ensures { λ r. ⌜ r ≡ label ⌝ }
-{
-    label as usize
-}
-
 // What a table has for a label; n where the label is over 255.
 fn at(table: &[u8; 256], n: usize, label: u32) -> usize
     ensures { λ r. ⌜ (length (now (table .entry)) ≡ 256 → r ≡ getD (now (table .entry)) label n) ⌝ }
 {
     if label < LABELS {
-        return laws::index(table[index(label)]);
+        return laws::index(table[laws::wide(label)]);
     }
     n
 }

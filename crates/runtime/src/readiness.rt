@@ -82,7 +82,7 @@ fn rows_of(
     let tables = cause::masks::masks(blocks, n);
     let reads = tables.reads;
     let writes = tables.writes;
-    let live = machine::edit::wide(m[0]);
+    let live = laws::wide(m[0]);
     let mut identifiers = [0u32; 64];
     let mut forwards = [0u32; 64];
     let mut undos = [0u32; 64];

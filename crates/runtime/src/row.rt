@@ -1,30 +1,17 @@
 // The plans of one live process, by the tables of the image: what a step would do, and the code that it would answer.
-use machine::edit::narrow;
+use laws::narrow;
 use rules::Block;
-use rules::Entry;
-use rules::Exit;
-use rules::Instruction;
 use step::plan::Plan;
 ghost use mathlib.Core.Path.{_≡_};
 ghost use Prim.Native.Nat.{_<_, _≤_};
 ghost use lib.ListN.{take};
-ghost use Rattle.rules.specs.Labels.{noBlock, blockOf};
+ghost use Rattle.rules.specs.Labels.{blockOf};
 ghost use Rattle.rules.specs.Machine.{liveCount, view};
 ghost use Rattle.rules.specs.Step.{forward, undo};
 ghost use Rattle.cause.specs.Held.{Masks};
 ghost use Rattle.places.specs.Places.{Entries, Exits};
 ghost use Rattle.step.specs.Ready.{processAt, hereAt, Plans};
 ghost use Rattle.runtime.specs.Known.{Known, refusedIn, codeIn};
-
-fn no_block() -> Block
-    ensures { λ r. ⌜ r ≡ noBlock ⌝ }
-{
-    Block {
-        entry: Entry::Begin(0),
-        instruction: Instruction::Skip,
-        exit: Exit::End(0),
-    }
-}
 
 // Block b of the first n; one that names nothing past them.
 fn block_at(blocks: [Block; 128], n: usize, b: usize) -> Block
@@ -34,7 +21,7 @@ fn block_at(blocks: [Block; 128], n: usize, b: usize) -> Block
     if b < n {
         return blocks[b];
     }
-    no_block()
+    laws::no_block()
 }
 
 // What a forward step of the process of a row would do.

@@ -100,7 +100,7 @@ fn plan_on(m: &[u32], blocks: [Block; 128], n: usize, process: u32, direction: u
         return Plan::Refused(19);
     }
     let row = machine::find::row_of(m, process);
-    if machine::edit::wide(m[0]) <= row {
+    if laws::wide(m[0]) <= row {
         return Plan::Refused(18);
     }
     plan_of(

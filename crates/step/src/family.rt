@@ -1,6 +1,6 @@
 // What a plan reads of a process's children: where their rows begin, how many they are, and whether all stand at a stage.
 use machine::ROWS;
-use machine::edit::wide;
+use laws::wide;
 ghost use mathlib.Core.Path.{_≡_};
 ghost use mathlib.Core.Bool.{not, _||_};
 ghost use Prim.Native.Nat.{_+_, _*_, _≤_};

@@ -5,7 +5,7 @@ use super::plan::Plan;
 use leaf::place::Placed;
 use leaf::place::Side;
 use leaf::plan::LeafPlan;
-use machine::edit::wide;
+use laws::wide;
 use rules::Block;
 use rules::Entry;
 use rules::Names;

@@ -55,18 +55,12 @@ pub fn list_code(image: &[u8], machine: &[u8], n: usize) -> u32
     answer.code
 }
 
-fn wide(x: u32) -> usize
-    ensures { λ r. ⌜ r ≡ x ⌝ }
-{
-    x as usize
-}
-
 // How many processes are live.
 fn live_count(machine: &[u8]) -> usize
     requires { ⌜ length (now machine) ≡ 34696 ⌝ }
     ensures { λ r. ⌜ r ≡ liveCount (wordsOf (now (machine .entry))) ⌝ }
 {
-    wide(bytes::word_at(machine, 0))
+    laws::wide(bytes::word_at(machine, 0))
 }
 
 // The row of no process.

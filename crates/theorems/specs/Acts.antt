@@ -15,7 +15,7 @@ use Rattle.rules.specs.Names.{heap, targetNames, targetResource, expressionName
 use Rattle.rules.specs.Leaf.{Tried, made, refused, after, targetPlace, expressionValue, update, exchange, semaphoreStep, act}
 use Rattle.rules.specs.declared.Target.{Target}
 use Rattle.rules.specs.declared.Instruction.{Instruction}
-use Rattle.value.proofs.Words.{changed-below}
+use Rattle.laws.proofs.Words.{changed-below}
 use Rattle.theorems.specs.Memory.{look, set-look, set-variable, set-cell, same-variable, Fine, fine-set}
 use Rattle.laws.specs.Fit.{TargetFit, InstructionFit}
 use Rattle.theorems.specs.Evaluate.{made-inj, pick-made, made-pick, after-made, made-after, after-alike, cell-made, Agree, agree-left, agree-right, expression-alike, target-alike, target-value, expression-word}

@@ -17,7 +17,7 @@ use Rattle.rules.specs.declared.Target.{Target}
 use Rattle.rules.specs.declared.Expression.{Expression}
 use Rattle.rules.specs.declared.Entry.{Entry}
 use Rattle.rules.specs.declared.Exit.{Exit}
-use Rattle.value.proofs.Words.{applied-below, negated-below}
+use Rattle.laws.proofs.Words.{applied-below, negated-below}
 use Rattle.theorems.specs.Memory.{look, same-variable, same-cell, Fine}
 use Rattle.laws.specs.Fit.{OperandFit, TargetFit, ExpressionFit, EntryFit, ExitFit}
 

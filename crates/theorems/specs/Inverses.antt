@@ -22,7 +22,7 @@ use Rattle.rules.specs.declared.Target.{Target}
 use Rattle.rules.specs.declared.Expression.{Expression}
 use Rattle.rules.specs.declared.Change.{Change}
 use Rattle.rules.specs.declared.Instruction.{Instruction}
-use Rattle.value.proofs.Words.{changed-back}
+use Rattle.laws.proofs.Words.{changed-back}
 use Rattle.theorems.specs.Lists.{pick-true}
 use Rattle.theorems.specs.Memory.{look, set-variable, set-cell, Fine}
 use Rattle.laws.specs.Fit.{TargetFit, InstructionFit}

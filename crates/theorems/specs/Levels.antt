@@ -19,7 +19,7 @@ use Rattle.rules.specs.Labels.{home, calledBy, called}
 use Rattle.rules.specs.Calls.{Calling, callingOf, homeAt, callsAt, sumOf, deepestOf, largest, depth, peak, deepest, mostRows, bad15}
 use Rattle.rules.specs.Fits.{nth}
 use Rattle.rules.specs.declared.Block.{Block}
-use Rattle.calls.proofs.PeakRight.{peak-right, PeakRight}
+use Rattle.laws.proofs.PeakRight.{peak-right, PeakRight}
 use Rattle.theorems.specs.Lists.{pick-true}
 use Rattle.theorems.specs.Parts.{calls, outOf, homeOf, labelOf}
 use Rattle.theorems.specs.Program.{Sound, call-in-image, call-home}

@@ -1,4 +1,3 @@
--- Laws of the values' definitions, and the theorem `signed-values`.
-pub mod Words
+-- The order of signed values, and the theorem `signed-values`.
 pub mod Order
 pub mod Signed

@@ -13,7 +13,7 @@ use Rattle.rules.specs.Leaf.{inverseChange}
 use Rattle.rules.specs.declared.Operator.{Operator}
 use Rattle.rules.specs.declared.Change.{Change}
 use Rattle.value.specs.Biased.{biasedOf}
-use Rattle.value.proofs.Words.{applied-below, negated-below, changed-below, changed-back}
+use Rattle.laws.proofs.Words.{applied-below, negated-below, changed-below, changed-back}
 use Rattle.value.proofs.Order.{by-sign, less-biased, at-most-biased}
 
 pub word-below : (z : ℤ) → wordOf z < span

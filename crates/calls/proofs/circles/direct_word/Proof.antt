@@ -6,7 +6,7 @@ use Rattle.rules.specs.Value.{flag}
 use Rattle.rules.specs.Calls.{reachesOver}
 use Rattle.laws.specs.CallTable.{callingFrom}
 use Rattle.calls.specs.Grid.{Word}
-use Rattle.calls.proofs.Tests.{flag-small}
+use Rattle.laws.proofs.Tests.{flag-small}
 use Rattle.calls.proofs.Grid.{word-none, word-more, word-room, word-at}
 use Rattle.calls.proofs.circles.direct_word.Statement.{statement}
 use Rattle.calls.proofs.circles.direct_word.Tie as tie

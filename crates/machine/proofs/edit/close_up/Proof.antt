@@ -14,7 +14,7 @@ use Rattle.machine.proofs.edit.close_up.Reads as reads
 use Rattle.machine.proofs.edit.close_up.Lts as lts
 use Rattle.edits.proofs.clear.Reads as clear-reads
 use Rattle.edits.proofs.move_down.Reads as move-down-reads
-use Rattle.machine.proofs.edit.wide.Reads as wide-reads
+use Rattle.laws.proofs.wide.Reads as wide-reads
 
 slice-read-k : tie.Need-slice-read-k
 slice-read-k c = search needs

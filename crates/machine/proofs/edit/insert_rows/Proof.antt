@@ -9,8 +9,8 @@ use Rattle.machine.proofs.edit.insert_rows.Reads as reads
 use Rattle.machine.proofs.edit.insert_rows.Lts as lts
 use Rattle.edits.proofs.copy_in.Reads as copy-in-reads
 use Rattle.edits.proofs.move_up.Reads as move-up-reads
-use Rattle.machine.proofs.edit.narrow.Reads as narrow-reads
-use Rattle.machine.proofs.edit.wide.Reads as wide-reads
+use Rattle.laws.proofs.narrow.Reads as narrow-reads
+use Rattle.laws.proofs.wide.Reads as wide-reads
 
 slice-read-wide : tie.Need-slice-read-wide
 slice-read-wide c = search needs

@@ -11,7 +11,7 @@ use Rattle.machine.proofs.edit.keep.Statement.{statement}
 use Rattle.machine.proofs.edit.keep.Tie as tie
 use Rattle.machine.proofs.edit.keep.Reads as reads
 use Rattle.machine.proofs.edit.keep.Lts as lts
-use Rattle.machine.proofs.edit.wide.Reads as wide-reads
+use Rattle.laws.proofs.wide.Reads as wide-reads
 
 slice-read-n : tie.Need-slice-read-n
 slice-read-n c = search needs

@@ -9,8 +9,8 @@ use Rattle.machine.proofs.edit.remove_rows.Reads as reads
 use Rattle.machine.proofs.edit.remove_rows.Lts as lts
 use Rattle.edits.proofs.clear.Reads as clear-reads
 use Rattle.edits.proofs.move_down.Reads as move-down-reads
-use Rattle.machine.proofs.edit.narrow.Reads as narrow-reads
-use Rattle.machine.proofs.edit.wide.Reads as wide-reads
+use Rattle.laws.proofs.narrow.Reads as narrow-reads
+use Rattle.laws.proofs.wide.Reads as wide-reads
 
 slice-read-wide : tie.Need-slice-read-wide
 slice-read-wide c = search needs

@@ -7,19 +7,19 @@ use borrow.Author.Needs.{needs}
 use Rattle.places.proofs.lookup.at.Statement.{statement}
 use Rattle.places.proofs.lookup.at.Tie as tie
 
-index-requires : tie.Need-index-requires
-index-requires c κs = search needs
+wide-requires : tie.Need-wide-requires
+wide-requires c κs = search needs
 
 element-copy-out-index : tie.Need-element-copy-out-index
 element-copy-out-index c = search needs
 
-index-requires-2 : tie.Need-index-requires-2
-index-requires-2 c κs = search needs
+index-requires : tie.Need-index-requires
+index-requires c κs = search needs
 
 returns : tie.Need-returns
 returns c long =
     let a = c .before .before .before .before .args in
-    c .index2 .ensures .0 ∙ within (a .table .now) (a .label) _ (a .n) (c .before .before .index .ensures) (omega arith)
+    c .index .ensures .0 ∙ within (a .table .now) (a .label) _ (a .n) (c .before .before .wide .ensures) (omega arith)
 
 returns-2 : tie.Need-returns-2
 returns-2 c long =
@@ -28,4 +28,4 @@ returns-2 c long =
 
 pub at-spec : {M : Type 1} → statement M
 at-spec =
-    tie.close (tie.spec index-requires element-copy-out-index index-requires-2 returns returns-2)
+    tie.close (tie.spec wide-requires element-copy-out-index index-requires returns returns-2)

@@ -13,8 +13,8 @@ use borrow.Author.Tests.{eqb-true, eq-eqb}
 use Rattle.rules.specs.Base.{pick}
 use Rattle.rules.specs.Value.{flag}
 use Rattle.rules.specs.Calls.{Calling, homeAt, callsAt, names, onward, reaches, bad14, largest}
-use Rattle.calls.specs.Acyclic.{Acyclic}
-use Rattle.calls.proofs.Reached.{reached}
+use Rattle.laws.specs.Acyclic.{Acyclic}
+use Rattle.laws.proofs.Reached.{reached}
 
 -- ---- how many numbers below n pass a test
 unfoldable count : (ℕ → Bool) → ℕ → ℕ

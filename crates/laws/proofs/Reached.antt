@@ -12,7 +12,7 @@ use lib.Dec.{eqb}
 use borrow.Author.Tests.{eqb-true, eq-eqb}
 use Rattle.rules.specs.Base.{some-of}
 use Rattle.rules.specs.Calls.{Calling, homeAt, callsAt, Reaches, names, onward, reachesOver, reaches}
-use Rattle.calls.proofs.Tests.{never, or-true, or-left, or-right, and-true}
+use Rattle.laws.proofs.Tests.{never, or-true, or-left, or-right, and-true}
 
 -- a label that is called, and the test for it
 named-from : (l : ℕ) (ls : List ℕ) → some-of (λ m. eqb m l) ls ≡ true → List·Memᴰ l ls

@@ -7,8 +7,8 @@ use Prim.Native.Nat.{ℕ, suc, _+_, _<_, max}
 use native.Mathlib.Omega.{arith}
 use lib.ListN.{length}
 use Rattle.rules.specs.Calls.{Calling, homeAt, callsAt, sumOf, deepestOf, largest, depthBelow, peakBelow, depth, peak}
-use Rattle.calls.specs.Acyclic.{Acyclic}
-use Rattle.calls.proofs.Rank.{largest-none, largest-above, settled}
+use Rattle.laws.specs.Acyclic.{Acyclic}
+use Rattle.laws.proofs.Rank.{largest-none, largest-above, settled}
 
 -- a call's sum, and its deepest label, depend on the labels called alone
 sum-same : (f g : ℕ → ℕ) (ls : List ℕ) → ((l : ℕ) → List·Memᴰ l ls → f l ≡ g l) → sumOf f ls ≡ sumOf g ls
