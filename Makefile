@@ -39,9 +39,12 @@ independent-test:
 compiler:
 	command -v $(firstword $(CC64)) > /dev/null || apt-get install -qq -y gcc-x86-64-linux-gnu libc6-dev-amd64-cross > /dev/null
 
+# Targets that are made at the same time call rt one after the other.
+RT := flock Makefile rt
+
 # The library for C and Rust: rt proves what is not proved yet, then compiles.
 archive:
-	rt staticlib tillerwrap > /dev/null
+	$(RT) staticlib tillerwrap > /dev/null
 
 # The header in C and in C++, and a client of all of it under the sanitizers.
 client-test: archive compiler

@@ -28,7 +28,7 @@ converter: walk
 
 # rt proves what is not proved yet, then compiles.
 walk:
-	@rt check walk > /dev/null
+	@$(RT) check walk > /dev/null
 
 # Both session programs print the stored lines of each example.
 example-test: walk independent
