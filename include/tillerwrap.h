@@ -151,7 +151,7 @@ struct tillerwrap_judged tillerwrap_judge(const uint8_t *image, size_t length);
 
 /* ---- Starting and stepping ---- */
 
-/* What starting and stepping answer. */
+/* What starting, stepping and listing answer. */
 struct tillerwrap_answer {
     uint32_t code;
     uint32_t place;
@@ -198,12 +198,12 @@ struct tillerwrap_row {
 /*
  * Lists what each live process of a machine could do, into 64 lent rows: row_count counts rows, not bytes.
  *
- * The codes are tried in this order: those of judging the image; 16 where machine_length is not TILLERWRAP_MACHINE_BYTES or
- * row_count is not TILLERWRAP_ROW_COUNT; 17. On code 0 every row is written: one for each live process, in the order of the machine's
+ * The codes are tried in this order: those of judging the image, with their places; 16 where machine_length is not
+ * TILLERWRAP_MACHINE_BYTES or row_count is not TILLERWRAP_ROW_COUNT; 17. On code 0 every row is written: one for each live process, in the order of the machine's
  * rows, with the codes that tillerwrap_step would answer, and zeros in the rest. On any other code no row is. The machine is only read.
  */
-uint32_t tillerwrap_list(const uint8_t *image, size_t image_length, const uint8_t *machine, size_t machine_length,
-                         struct tillerwrap_row *rows, size_t row_count);
+struct tillerwrap_answer tillerwrap_list(const uint8_t *image, size_t image_length, const uint8_t *machine, size_t machine_length,
+                                         struct tillerwrap_row *rows, size_t row_count);
 
 #ifdef __cplusplus
 }

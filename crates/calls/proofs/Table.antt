@@ -1,6 +1,6 @@
 -- The tables as rules' `Calling`: what the loops over a call's labels have to show. Assumes nothing.
 use mathlib.Core.Path.{_≡_, refl, sym, ap, _∙_}
-use mathlib.Core.Bool.{Bool, true, false, _||_}
+use mathlib.Core.Bool.{Bool, true, false, _||_, or-assoc, or-false}
 use mathlib.Core.List.{List, [], _∷_, _++_}
 use mathlib.Core.Logic.{⊎-elim}
 use Prim.Native.Nat.{ℕ, zero, suc, _+_, _*_, _<_, _≤_}
@@ -17,7 +17,7 @@ use Rattle.rules.specs.Calls.{sumOf, reachesOver}
 use Rattle.laws.specs.CallTable.{callingFrom}
 use Rattle.laws.proofs.CallTable.{calls-at}
 use Rattle.calls.specs.Table.{Tabled}
-use Rattle.laws.proofs.Tests.{never, or-true, or-left, or-right, or-assoc, or-false}
+use Rattle.laws.proofs.Tests.{never, or-cases, or-left, or-right}
 
 -- ---- some label passes: of one label more, and of a longer part
 some-more : (p : ℕ → Bool) (ls : List ℕ) (x : ℕ) → some-of p (ls ++ x ∷ []) ≡ some-of p ls || p x
@@ -31,7 +31,7 @@ some-longer p ls zero k l h = never h
 some-longer p ls (suc j) zero l h = absurd (not-suc-le-zero l)
 some-longer p [] (suc j) (suc k) l h = never h
 some-longer p (x ∷ ls) (suc j) (suc k) l h =
-    ⊎-elim (λ a. or-left (p x) _ a) (λ a. or-right (p x) _ (some-longer p ls j k (le-of-suc-le-suc l) a)) (or-true (p x) _ h)
+    ⊎-elim (λ a. or-left (p x) _ a) (λ a. or-right (p x) _ (some-longer p ls j k (le-of-suc-le-suc l) a)) (or-cases (p x) _ h)
 
 -- none of the first k labels of block b's call is l
 abbrev pub NoneNamed : List ℕ → ℕ → ℕ → ℕ → Type 0

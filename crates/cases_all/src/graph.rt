@@ -135,7 +135,7 @@ fn lines(machine: &[u32], reads: &[u64; 128], writes: &[u64; 128]) {
 fn on_blocks(machine: &[u32], blocks: [Block; 128], n: usize)
     requires { ⌜ Sound (take n blocks) × (n ≤ 128) ⌝ }
 {
-    let tables = cause::masks::masks(blocks, n);
+    let tables = masks::masks(blocks, n);
     let reads = tables.reads;
     let writes = tables.writes;
     lines(machine, &reads, &writes);

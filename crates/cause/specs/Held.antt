@@ -1,22 +1,13 @@
--- What the scan for code 27 needs to know of its tables, and what it finds.
+-- What the scan for code 27 needs to know of the history, and what it finds.
 use mathlib.Core.Path.{_≡_}
 use mathlib.Core.Bool.{Bool}
 use mathlib.Core.List.{List}
 use Prim.Native.Nat.{ℕ, suc, _+_, _*_, _<_, _≤_}
 use lib.ListN.{length, drop, getD}
 use Rattle.rules.specs.Base.{some-of}
-use Rattle.rules.specs.Names.{blockReads, blockWrites}
-use Rattle.rules.specs.Labels.{blockOf}
 use Rattle.rules.specs.Machine.{Kept, view, historyCount}
 use Rattle.rules.specs.declared.Block.{Block}
 use Rattle.laws.specs.Conflict.{conflicts}
-use Rattle.laws.specs.Fit.{BlockFit}
-use Rattle.cause.specs.Mask.{Mask}
-
--- the tables hold the masks of each block
-pub record Masks (program : List Block) (reads writes : List ℕ) : Type 0 where
-  pub read : (b : ℕ) → b < length program → Mask (blockReads (blockOf program b)) (getD reads b 0)
-  pub write : (b : ℕ) → b < length program → Mask (blockWrites (blockOf program b)) (getD writes b 0)
 
 -- entry i of a machine's words
 abbrev pub keptAt : List ℕ → ℕ → Kept
@@ -43,7 +34,3 @@ pub record Newest (w : List ℕ) (p r : ℕ) : Type 0 where
 pub record Long (w : List ℕ) : Type 0 where
   pub long : length w ≡ 8674
   pub kept : historyCount w ≤ 4096
-
--- the first n blocks are fit
-abbrev pub BlocksFit : List Block → ℕ → Type 0
-BlocksFit blocks n = (b : ℕ) → b < n → BlockFit (blockOf blocks b)

@@ -1,2 +1,2 @@
-pub mod Mask
+-- What the contracts of this crate cite beside rules.
 pub mod Held

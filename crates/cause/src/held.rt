@@ -1,5 +1,6 @@
 // The scan that decides code 27: whether a later kept step writes what this one reads, or reads what it writes. That this is the
 // graph's three conditions is a law of crate laws.
+use machine::BLOCK;
 ghost use mathlib.Core.Path.{_≡_};
 ghost use mathlib.Core.Bool.{not, _||_};
 ghost use mathlib.Core.List.{List};
@@ -8,7 +9,8 @@ ghost use lib.ListN.{length};
 ghost use lib.Bits.{bitAnd};
 ghost use lib.Dec.{eqb};
 ghost use Rattle.rules.specs.declared.Block.{Block};
-ghost use Rattle.cause.specs.Held.{Masks, Scanned, laterConflict};
+ghost use Rattle.masks.specs.Masks.{Masks};
+ghost use Rattle.cause.specs.Held.{Scanned, laterConflict};
 
 // Whether two masks have a resource in common.
 fn meets(a: u64, b: u64) -> bool
@@ -33,12 +35,12 @@ pub fn held(m: &[u32], reads: &[u64; 128], writes: &[u64; 128], i: usize) -> boo
     ensures { λ r. ⌜ ((program : List Block) → Masks program (now (reads .entry)) (now (writes .entry)) → Scanned (now (m .entry)) i (length program) → r ≡ laterConflict program (now (m .entry)) i) ⌝ }
 {
     let n = laws::wide(m[1]);
-    let b = laws::wide(m[483 + 2 * i]);
+    let b = laws::wide(m[BLOCK + 2 * i]);
     let read = reads[b];
     let written = writes[b];
     let mut j = i + 1;
     while j < n {
-        let c = laws::wide(m[483 + 2 * j]);
+        let c = laws::wide(m[BLOCK + 2 * j]);
         if conflict(read, written, reads[c], writes[c]) {
             return true;
         }

@@ -1,5 +1,3 @@
-// What a block reads and writes, as masks of resources, and the scan that decides code 27 (document 01, "The cause graph").
+// The newest entry of a process, and the scan that decides code 27 (document 01, "The cause graph").
 pub mod held;
-pub mod mask;
-pub mod masks;
 pub mod newest;

@@ -1,4 +1,5 @@
 // The newest entry of a process, looked for from the end.
+use machine::HISTORY;
 ghost use Rattle.cause.specs.Held.{Long, Newest};
 
 // The place of the newest entry, or the history count where there is none.
@@ -10,7 +11,7 @@ pub fn newest(m: &[u32], identifier: u32) -> usize
     let mut i = n;
     while 0 < i {
         let at = i - 1;
-        if m[482 + 2 * at] == identifier {
+        if m[HISTORY + 2 * at] == identifier {
             return at;
         }
         i = at;

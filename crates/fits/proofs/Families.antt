@@ -14,14 +14,15 @@ use Rattle.rules.specs.Machine.{Process, isChildOf, children, liveCount, standi
 use Rattle.rules.specs.Fits.{ascending, calledAt, nth, childLabel, standsInSome, ownFits, childrenFit}
 use Rattle.rules.specs.declared.Block.{Block}
 use Rattle.rules.specs.declared.Place.{Place}
-use Rattle.laws.proofs.Lists.{and-both, true-false}
+use Rattle.laws.proofs.Tests.{and-true, true-false}
 use Rattle.laws.proofs.Ascending.{ascending-head, ascending-tail}
 use Rattle.laws.proofs.View.{rowAt, noRow, row-at, length-rows}
-use Rattle.fits.specs.Ordered.{Ordered}
+use Rattle.ordered.specs.Ordered.{Ordered}
 use Rattle.fits.specs.Children.{wholeFamily}
-use Rattle.fits.proofs.Standing.{row-mine, standing-found}
-use Rattle.fits.proofs.Owning.{own-child}
-use Rattle.fits.proofs.Each.{each-at, rows-at}
+use Rattle.ordered.proofs.Standing.{row-mine, standing-found}
+use Rattle.own.proofs.Owning.{own-child}
+use Rattle.ordered.proofs.Each.{rows-at}
+use Rattle.laws.proofs.Lists.{each-at}
 
 -- ---- numbers that climb from lo on and stay below hi
 abbrev Climbs : ℕ → ℕ → List ℕ → Type 0
@@ -53,7 +54,7 @@ unfolding alike
 alike-length [] [] h = refl
 alike-length [] (y ∷ m) h = absurd (true-false h refl)
 alike-length (x ∷ l) [] h = absurd (true-false h refl)
-alike-length (x ∷ l) (y ∷ m) h = ap suc (alike-length l m (and-both (eqb x y) (alike l m) h .1))
+alike-length (x ∷ l) (y ∷ m) h = ap suc (alike-length l m (and-true (eqb x y) (alike l m) h .1))
 
 length-upFrom : (a n : ℕ) → length (upFrom a n) ≡ n
 unfolding upFrom
@@ -123,7 +124,7 @@ module _ (program : List Block) (w : List ℕ) (o : Ordered w) (own : each-of (o
   child-between i k c =
       let p = getD w (290 + 3 * j) 0 in
       let q = getD w (290 + 3 * i) 0 in
-      let b = and-both (not (eqb q 0)) (eqb (q / 16) p) c in
+      let b = and-true (not (eqb q 0)) (eqb (q / 16) p) c in
       let f = eqb-false q 0 (not-true (eqb q 0) (b .0)) in
       let e : q / 16 ≡ p = eqb-true (q / 16) p (b .1) in
       let s : childLabel program (standing (view w .rows) (q / 16)) (q % 16) ≡ nth (calledAt program (rowAt w j .stands)) (q % 16) =

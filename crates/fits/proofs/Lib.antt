@@ -1,12 +1,3 @@
-pub mod Each
-pub mod Zeros
-pub mod Rising
-pub mod Digits
-pub mod Halves
-pub mod Standing
-pub mod Placing
-pub mod Owning
 pub mod Tallying
-pub mod Recent
 pub mod Families
 pub mod Together

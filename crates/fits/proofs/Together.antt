@@ -1,47 +1,30 @@
 -- What the code tests, taken together, is code 17: where the words are in order, the rows' clauses are `rowsFit`. Assumes nothing.
-use Prim.Native.Nat.{ℕ, _+_, _*_, _/_, _%_, _<_, _≤_}
+use Prim.Native.Nat.{ℕ, _+_, _*_, _/_, _%_, _<_}
 use mathlib.Core.Path.{_≡_, refl, sym, ap, _∙_}
 use mathlib.Core.Bool.{Bool, true, false, _&&_, _||_}
 use mathlib.Core.List.{List}
 use mathlib.Core.Logic.{⊎-elim}
 use mathlib.Core.Option.{Option, none, some}
-use lib.ListN.{length, getD}
-use lib.Dec.{eqb, leb}
-use borrow.Author.Tests.{leb-true, eqb-true, eqb-false}
+use lib.ListN.{getD}
+use lib.Dec.{eqb}
+use borrow.Author.Tests.{eqb-true, eqb-false}
 use Rattle.rules.specs.Base.{each-of}
-use Rattle.rules.specs.Machine.{Process, liveCount, historyCount, standing, view}
+use Rattle.rules.specs.Machine.{Process, liveCount, standing, view}
 use Rattle.rules.specs.Fits as Rules
 use Rattle.rules.specs.Fits.{countsFit, unusedZero, ascending, isLive, rootIn, rootFits, parentFits, childLabel, standsInSome, ownFits, childrenFit, newestFits, rowFits, keptFits, machineFits}
 use Rattle.rules.specs.declared.Block.{Block}
 use Rattle.rules.specs.declared.Place.{Place}
-use Rattle.laws.proofs.Lists.{and-both, both-and, true-false}
+use Rattle.laws.proofs.Tests.{and-true, true-and, true-false}
 use Rattle.laws.proofs.Search.{lt-or-le}
 use Rattle.laws.proofs.View.{rowAt}
 use Rattle.machine.specs.RowOf.{rowOf}
 use Rattle.fits.specs.Children.{wholeFamily}
-use Rattle.fits.specs.Ordered.{inOrder, Ordered}
+use Rattle.ordered.specs.Ordered.{inOrder, Ordered}
 use Rattle.fits.specs.Rows.{rowsFit}
 use Rattle.fits.proofs.Families.{children-is}
-use Rattle.fits.proofs.Owning.{own-root, own-child}
-use Rattle.fits.proofs.Standing.{row-is, standing-found, standing-lost}
-use Rattle.fits.proofs.Each.{rows-at, rows-true}
-
--- ---- words in order
-module _ (w : List ℕ) where
-  pub live-few : countsFit w ≡ true → liveCount w ≤ 64
-  unfolding countsFit
-  live-few c = leb-true _ _ (and-both (leb (liveCount w) 64) (leb (historyCount w) 4096) c .0)
-
-  pub kept-few : countsFit w ≡ true → historyCount w ≤ 4096
-  unfolding countsFit
-  kept-few c = leb-true _ _ (and-both (leb (liveCount w) 64) (leb (historyCount w) 4096) c .1)
-
-  pub ordered : length w ≡ 8674 → inOrder w ≡ true → Ordered w
-  unfolding inOrder
-  ordered long h =
-      let a = and-both (countsFit w) (unusedZero w && ascending (view w .rows)) h in
-      let b = and-both (unusedZero w) (ascending (view w .rows)) (a .1) in
-      record { long = long; live = live-few (a .0); kept = kept-few (a .0); ascends = b .1 }
+use Rattle.own.proofs.Owning.{own-root, own-child}
+use Rattle.ordered.proofs.Standing.{row-is, standing-found, standing-lost}
+use Rattle.ordered.proofs.Each.{rows-at, rows-true}
 
 -- two tests agree where each passes if the other does
 agree : (a b : Bool) → (a ≡ true → b ≡ true) → (b ≡ true → a ≡ true) → a ≡ b
@@ -101,23 +84,23 @@ module _ (program : List Block) (w : List ℕ) (o : Ordered w) where
       let B = ownFits program (view w .rows) r in
       let C = childrenFit program (view w .rows) r in
       let D = newestFits program (view w .history) r in
-      let a = and-both A (B && (C && D)) h in
-      let b = and-both B (C && D) (a .1) in
-      let c = and-both C D (b .1) in
+      let a = and-true A (B && (C && D)) h in
+      let b = and-true B (C && D) (a .1) in
+      let c = and-true C D (b .1) in
       record { parent = a .0; own = b .0; children = c .0; newest = c .1 }
 
   of-row : (r : Process) → Row r → rowFits program (view w) r ≡ true
   unfolding rowFits
-  of-row r f = both-and (f .parent) (both-and (f .own) (both-and (f .children) (f .newest)))
+  of-row r f = true-and _ _ (f .parent) (true-and _ _ (f .own) (true-and _ _ (f .children) (f .newest)))
 
   clauses : rootFits program (view w .rows) ≡ true → each-of (rowFits program (view w)) (view w .rows) ≡ true → rowsFit program (view w) ≡ true
   unfolding rowsFit
   clauses root rows =
       let f : (i : ℕ) → i < liveCount w → Row (rowAt w i) = λ i l. row-of (rowAt w i) (rows-at w (rowFits program (view w)) rows i l) in
       let own : each-of (ownFits program (view w .rows)) (view w .rows) ≡ true = rows-true w (ownFits program (view w .rows)) (λ i l. f i l .own) in
-      both-and (root-live program (view w .rows) root)
-      (both-and own
-      (both-and (rows-true w (wholeFamily program (view w .rows)) (λ i l. sym (children-is program w o own i l) ∙ f i l .children))
+      true-and _ _ (root-live program (view w .rows) root)
+      (true-and _ _ own
+      (true-and _ _ (rows-true w (wholeFamily program (view w .rows)) (λ i l. sym (children-is program w o own i l) ∙ f i l .children))
       (rows-true w (newestFits program (view w .history)) (λ i l. f i l .newest))))
 
   rows-clause : rowsFit program (view w) ≡ true → (rootFits program (view w .rows) && each-of (rowFits program (view w)) (view w .rows)) ≡ true
@@ -127,10 +110,10 @@ module _ (program : List Block) (w : List ℕ) (o : Ordered w) where
       let B = each-of (ownFits program (view w .rows)) (view w .rows) in
       let C = each-of (wholeFamily program (view w .rows)) (view w .rows) in
       let D = each-of (newestFits program (view w .history)) (view w .rows) in
-      let a = and-both A (B && (C && D)) h in
-      let b = and-both B (C && D) (a .1) in
-      let c = and-both C D (b .1) in
-      both-and (root-stands program w (a .0) (b .0))
+      let a = and-true A (B && (C && D)) h in
+      let b = and-true B (C && D) (a .1) in
+      let c = and-true C D (b .1) in
+      true-and _ _ (root-stands program w (a .0) (b .0))
       (rows-true w (rowFits program (view w))
       (λ i l.
       let own = rows-at w (ownFits program (view w .rows)) (b .0) i l in
@@ -146,7 +129,7 @@ module _ (program : List Block) (w : List ℕ) (o : Ordered w) where
   rows-are : (rootFits program (view w .rows) && each-of (rowFits program (view w)) (view w .rows)) ≡ rowsFit program (view w)
   rows-are =
       agree (rootFits program (view w .rows) && each-of (rowFits program (view w)) (view w .rows)) (rowsFit program (view w))
-      (λ h. let a = and-both (rootFits program (view w .rows)) (each-of (rowFits program (view w)) (view w .rows)) h in clauses (a .0) (a .1))
+      (λ h. let a = and-true (rootFits program (view w .rows)) (each-of (rowFits program (view w)) (view w .rows)) h in clauses (a .0) (a .1))
       rows-clause
 
   pub in-order : inOrder w ≡ true → Rules.fits program w ≡ (rowsFit program (view w) && each-of (keptFits program) (view w .history))

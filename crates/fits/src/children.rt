@@ -10,16 +10,16 @@ ghost use Rattle.rules.specs.Base.{each-of};
 ghost use Rattle.rules.specs.Machine.{liveCount, view};
 ghost use Rattle.rules.specs.declared.Block.{Block};
 ghost use Rattle.places.specs.Places.{Exits};
-ghost use Rattle.fits.specs.Tables.{Calls};
-ghost use Rattle.fits.specs.Ordered.{Ordered};
+ghost use Rattle.own.specs.Tables.{Calls};
+ghost use Rattle.ordered.specs.Ordered.{Ordered};
 ghost use Rattle.fits.specs.Children.{OneMore, Tally, wholeFamily};
-use crate::LABEL;
-use crate::STAGE;
-use crate::own::called_count;
-use machine::ROWS;
+use identifier::Identifier;
 use laws::wide;
+use machine::LABEL;
+use machine::ROWS;
+use machine::STAGE;
 use machine::find::row_of;
-use machine::identifier::Identifier;
+use own::called_count;
 
 // One more child of the process whose child the identifier is.
 fn count_child(tally: &mut [u8; 64], m: &[u32], identifier: u32)
@@ -29,7 +29,9 @@ fn count_child(tally: &mut [u8; 64], m: &[u32], identifier: u32)
     if identifier == Identifier::ROOT {
         return;
     }
-    let parent = row_of(m, identifier / 16);
+    let process = Identifier { number: identifier };
+    let above = process.parent();
+    let parent = row_of(m, above.number);
     if wide(m[0]) <= parent {
         return;
     }

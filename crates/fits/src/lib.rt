@@ -1,11 +1,7 @@
 // Code 17, document 01: do a machine's words fit a program? Exactly rules' `fits`, from the words and the tables of the program; linear
 // in the history but for a search by halves among the live rows.
 mod children;
-mod find;
-mod history;
-mod own;
 mod rows;
-mod words;
 
 ghost use mathlib.Core.Path.{_≡_};
 ghost use mathlib.Core.List.{List};
@@ -13,20 +9,7 @@ ghost use Prim.Native.Nat.{_≤_};
 ghost use lib.ListN.{length};
 ghost use Rattle.rules.specs.Fits as Rules;
 ghost use Rattle.rules.specs.declared.Block.{Block};
-ghost use Rattle.fits.specs.Tables.{Tables};
-
-// Where the label and the stage of the first row stand, and the block of the first history entry.
-const LABEL: usize = 291;
-
-const STAGE: usize = 292;
-
-const BLOCK: usize = 483;
-
-// The label of the root's process block.
-const MAIN: u8 = 0;
-
-// The most labels that a call names: children are numbered from 1 to so many.
-const MOST_CALLED: u32 = 8;
+ghost use Rattle.own.specs.Tables.{Tables};
 
 // The machine fits the program, of n blocks: the answer is false where the code is 17.
 pub fn fits(
@@ -43,11 +26,11 @@ pub fn fits(
     requires { ⌜ (length (now m) ≡ 8674) × (n ≤ 128) ⌝ }
     ensures { λ r. ⌜ ((program : List Block) → Tables program n (now (entries .entry)) (now (exits .entry)) (now (begins .entry)) (now (ends .entry)) (now (homes .entry)) (now (counts .entry)) (now (names .entry)) → r ≡ Rules.fits program (now (m .entry))) ⌝ }
 {
-    if !words::in_order(m) {
+    if !ordered::words::in_order(m) {
         return false;
     }
     if !rows::rows_fit(m, entries, exits, begins, ends, homes, counts, names, n) {
         return false;
     }
-    history::all_kept(m, n)
+    kept::all_kept(m, n)
 }

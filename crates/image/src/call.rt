@@ -43,10 +43,8 @@ fn names_at(s: &[u8], at: usize, n: u8) -> Names
 
 // A call of n labels whose entry is kind 20.
 fn call_from(s: &[u8], at: usize, n: u8) -> InstructionRead
-    ensures {
-        λ r. ⌜ instructionShown r ≡ whole (now (s .entry)) at n
-            (got (Instruction.Call (namesAt (now (s .entry)) at n)) (at + 1 + n)) ⌝
-    }
+    ensures { λ r. ⌜ instructionShown r ≡ whole (now (s .entry)) at n
+        (got (Instruction.Call (namesAt (now (s .entry)) at n)) (at + 1 + n)) ⌝ }
 {
     if rest(s, at) <= index(n) {
         return InstructionRead::Bad(Fault { code: 3, place: at });
@@ -82,10 +80,8 @@ fn call_at(s: &[u8], at: usize, entry: Entry, n: u8) -> InstructionRead
 
 // The last kinds of an instruction: a call, or none.
 pub(crate) fn call_or_unknown(s: &[u8], at: usize, entry: Entry, kind: u8) -> InstructionRead
-    ensures {
-        λ r. ⌜ instructionShown r ≡ pick (leb 0x51 kind && leb kind 0x58)
-            (callAt (now (s .entry)) at entry (kind - 0x50)) (fault 2 at) ⌝
-    }
+    ensures { λ r. ⌜ instructionShown r ≡ pick (leb 0x51 kind && leb kind 0x58)
+        (callAt (now (s .entry)) at entry (kind - 0x50)) (fault 2 at) ⌝ }
 {
     if kind < 0x51 {
         return InstructionRead::Bad(Fault { code: 2, place: at });

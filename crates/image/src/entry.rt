@@ -44,10 +44,8 @@ fn either(l: u8, m: u8, x: ExpressionRead) -> EntryRead
 
 // With the two labels read: the expression follows.
 fn condition(s: &[u8], b: LabelsRead) -> EntryRead
-    ensures {
-        λ r. ⌜ entryShown r ≡ next (labelsShown b)
-            (λ l n. next (expressionAt (now (s .entry)) n) (λ e m. got (Entry.Either (l .0) (l .1) e) m)) ⌝
-    }
+    ensures { λ r. ⌜ entryShown r ≡ next (labelsShown b)
+        (λ l n. next (expressionAt (now (s .entry)) n) (λ e m. got (Entry.Either (l .0) (l .1) e) m)) ⌝ }
 {
     match b {
         LabelsRead::Got(l, m, c) => either(l, m, c.expression(s)),

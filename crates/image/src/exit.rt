@@ -44,10 +44,8 @@ fn either(l: u8, m: u8, x: ExpressionRead) -> ExitRead
 
 // With the two labels read: the expression follows.
 fn condition(s: &[u8], b: LabelsRead) -> ExitRead
-    ensures {
-        λ r. ⌜ exitShown r ≡ next (labelsShown b)
-            (λ l n. next (expressionAt (now (s .entry)) n) (λ e m. got (Exit.Either e (l .0) (l .1)) m)) ⌝
-    }
+    ensures { λ r. ⌜ exitShown r ≡ next (labelsShown b)
+        (λ l n. next (expressionAt (now (s .entry)) n) (λ e m. got (Exit.Either e (l .0) (l .1)) m)) ⌝ }
 {
     match b {
         LabelsRead::Got(l, m, c) => either(l, m, c.expression(s)),

@@ -69,10 +69,8 @@ fn two(operator: Operator, a: Operand, o: OperandRead) -> ExpressionRead
 
 // With the first operand read: the second follows.
 fn first_of_two(s: &[u8], operator: Operator, o: OperandRead) -> ExpressionRead
-    ensures {
-        λ r. ⌜ expressionShown r ≡ next (operandShown o)
-            (λ a n. next (operandAt (now (s .entry)) n) (λ b m. got (Expression.Two operator a b) m)) ⌝
-    }
+    ensures { λ r. ⌜ expressionShown r ≡ next (operandShown o)
+        (λ a n. next (operandAt (now (s .entry)) n) (λ b m. got (Expression.Two operator a b) m)) ⌝ }
 {
     match o {
         OperandRead::Got(a, c) => two(operator, a, c.operand(s)),

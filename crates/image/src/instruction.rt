@@ -7,10 +7,10 @@ use crate::Cursor;
 use crate::Fault;
 use crate::call::call_or_unknown;
 use crate::expression::ExpressionRead;
-use crate::itself::exchanges_itself;
-use crate::itself::updates_itself;
 use crate::operand::TargetRead;
 use crate::record::ByteRead;
+use names::itself::exchanges_itself;
+use names::itself::updates_itself;
 use rules::Change;
 use rules::Entry;
 use rules::Instruction;
@@ -23,10 +23,8 @@ pub enum InstructionRead {
 
 // With the expression read: 7 is judged after the instruction's last record, its place the instruction's kind byte.
 fn updated(place: usize, change: Change, a: Target, x: ExpressionRead) -> InstructionRead
-    ensures {
-        λ r. ⌜ instructionShown r ≡ next (expressionShown x)
-            (λ e n. pick (updatesItself a e) (fault 7 place) (got (Instruction.Update change a e) n)) ⌝
-    }
+    ensures { λ r. ⌜ instructionShown r ≡ next (expressionShown x)
+        (λ e n. pick (updatesItself a e) (fault 7 place) (got (Instruction.Update change a e) n)) ⌝ }
 {
     match x {
         ExpressionRead::Got(e, c) => {
@@ -41,10 +39,8 @@ fn updated(place: usize, change: Change, a: Target, x: ExpressionRead) -> Instru
 
 // With the left operand read: the expression follows.
 fn update(s: &[u8], place: usize, change: Change, t: TargetRead) -> InstructionRead
-    ensures {
-        λ r. ⌜ instructionShown r ≡ next (targetShown t) (λ a n. next (expressionAt (now (s .entry)) n)
-            (λ e m. pick (updatesItself a e) (fault 7 place) (got (Instruction.Update change a e) m))) ⌝
-    }
+    ensures { λ r. ⌜ instructionShown r ≡ next (targetShown t) (λ a n. next (expressionAt (now (s .entry)) n)
+        (λ e m. pick (updatesItself a e) (fault 7 place) (got (Instruction.Update change a e) m))) ⌝ }
 {
     match t {
         TargetRead::Got(a, c) => updated(place, change, a, c.expression(s)),
@@ -54,10 +50,8 @@ fn update(s: &[u8], place: usize, change: Change, t: TargetRead) -> InstructionR
 
 // With both left operands read.
 fn exchanged(place: usize, a: Target, t: TargetRead) -> InstructionRead
-    ensures {
-        λ r. ⌜ instructionShown r ≡ next (targetShown t)
-            (λ b n. pick (exchangesItself a b) (fault 7 place) (got (Instruction.Exchange a b) n)) ⌝
-    }
+    ensures { λ r. ⌜ instructionShown r ≡ next (targetShown t)
+        (λ b n. pick (exchangesItself a b) (fault 7 place) (got (Instruction.Exchange a b) n)) ⌝ }
 {
     match t {
         TargetRead::Got(b, c) => {
@@ -72,10 +66,8 @@ fn exchanged(place: usize, a: Target, t: TargetRead) -> InstructionRead
 
 // With the first left operand read: the second follows.
 fn exchange(s: &[u8], place: usize, t: TargetRead) -> InstructionRead
-    ensures {
-        λ r. ⌜ instructionShown r ≡ next (targetShown t) (λ a n. next (targetAt (now (s .entry)) n)
-            (λ b m. pick (exchangesItself a b) (fault 7 place) (got (Instruction.Exchange a b) m))) ⌝
-    }
+    ensures { λ r. ⌜ instructionShown r ≡ next (targetShown t) (λ a n. next (targetAt (now (s .entry)) n)
+        (λ b m. pick (exchangesItself a b) (fault 7 place) (got (Instruction.Exchange a b) m))) ⌝ }
 {
     match t {
         TargetRead::Got(a, c) => exchanged(place, a, c.left_operand(s)),

@@ -5,7 +5,6 @@ pub mod entry;
 pub mod exit;
 pub mod expression;
 pub mod instruction;
-mod itself;
 pub mod operand;
 pub mod record;
 

@@ -108,7 +108,7 @@ module _ (program : List Block) (n : ℕ) (l : length program ≡ n) where
       (passed 12 (λ b. bad12 program (blockOf program b)) n _ (length program) r l e k
       ∙ ap (λ (x : Bool). pick x (Judgement.Refused 13 0) (judgedCalls program)) b)
 
--- ---- codes 9 to 11
+  -- ---- codes 9 to 11
   abbrev After10 : Judgement
   After10 = atLowest 11 (bad11 program) (length program) (judgedNames program)
 

@@ -7,9 +7,9 @@ ghost use Rattle.rules.specs.Base.{upFrom};
 ghost use Rattle.rules.specs.Labels.{home};
 ghost use Rattle.rules.specs.Judge.{judgedBlocks, judgement};
 ghost use Rattle.labels.specs.Counts.{BeginsOf};
-ghost use Rattle.labels.specs.Own.{ProcessesOf};
+ghost use Rattle.processes.specs.Own.{ProcessesOf};
 ghost use Rattle.judge.specs.Parts.{judgedCalls, judgedNames};
-use labels::Processes;
+use processes::Processes;
 use rules::Block;
 use rules::Judgement;
 
@@ -26,7 +26,7 @@ fn judge_calls(blocks: [Block; 128], n: usize, homes: &[u8; 128]) -> Judgement
     requires { ⌜ (n ≤ 128) × (take n (now homes) ≡ map (home (take n blocks)) (upFrom 0 n)) ⌝ }
     ensures { λ r. ⌜ r ≡ judgedCalls (take n blocks) ⌝ }
 {
-    let table = labels::call_table(blocks, n);
+    let table = called::call_table(blocks, n);
     let counts = table.counts;
     let names = table.names;
     let circle = calls::fourteen(homes, &counts, &names, n);
@@ -46,11 +46,11 @@ fn judge_names(blocks: [Block; 128], n: usize, homes: &[u8; 128], begins: &[u16;
     requires { ⌜ BeginsOf (take n blocks) (now begins) ⌝ }
     ensures { λ r. ⌜ r ≡ judgedNames (take n blocks) ⌝ }
 {
-    let unknown = labels::twelve(blocks, n, begins);
+    let unknown = called::twelve(blocks, n, begins);
     if unknown < n {
         return Judgement::Refused(12, place(unknown));
     }
-    if labels::thirteen(begins) {
+    if called::thirteen(begins) {
         return Judgement::Refused(13, 0);
     }
     judge_calls(blocks, n, homes)
@@ -62,7 +62,7 @@ fn judge_labels(blocks: [Block; 128], n: usize, processes: Processes) -> Judgeme
     requires { ⌜ (n ≤ 128) × ProcessesOf (take n blocks) n processes ⌝ }
     ensures { λ r. ⌜ r ≡ judgedBlocks (take n blocks) ⌝ }
 {
-    let semaphore = labels::nine(blocks, n);
+    let semaphore = semaphores::nine(blocks, n);
     if semaphore < n {
         return Judgement::Refused(9, place(semaphore));
     }
@@ -85,7 +85,7 @@ pub fn judge_blocks(blocks: [Block; 128], n: usize) -> Judgement
     requires { ⌜ n ≤ 128 ⌝ }
     ensures { λ r. ⌜ r ≡ judgedBlocks (take n blocks) ⌝ }
 {
-    judge_labels(blocks, n, labels::process_blocks(blocks, n))
+    judge_labels(blocks, n, processes::process_blocks(blocks, n))
 }
 
 // Any bytes get exactly the answer of document 01. (A call of judge_blocks would do, at the price of one more copy of the blocks on
@@ -100,7 +100,7 @@ pub fn judge(image: &[u8]) -> Judgement
     }
     let n = d.count;
     let all = d.blocks;
-    let processes = labels::process_blocks(all, n);
+    let processes = processes::process_blocks(all, n);
     let blocks = d.blocks;
     judge_labels(blocks, n, processes)
 }

@@ -13,18 +13,15 @@ use Rattle.rules.specs.Base.{pick, times, each-of}
 use Rattle.rules.specs.Labels.{entryLabels, exitLabels, beginLabels, endLabels, ordinaryLabels, count, ordinary, outer, bad10}
 use Rattle.rules.specs.declared.Block.{Block}
 use Rattle.laws.proofs.Lists.{each-append}
-use Rattle.labels.specs.declared.short.Few.{Few}
-use Rattle.labels.specs.declared.counts.Counts.{Counts}
-use Rattle.labels.specs.Few.{few, Lists}
-use Rattle.labels.specs.Counts.{most, Low, Raised, Counted, CountsOf, onceAt, badBy}
-use Rattle.labels.proofs.Programs.{blank, pick-le, getD-same, take-more}
+use Rattle.laws.proofs.Times.{times-append}
+use Rattle.short.specs.declared.Few.{Few}
+use Rattle.labels.specs.declared.Counts.{Counts}
+use Rattle.short.specs.Few.{few, Lists}
+use Rattle.short.specs.Low.{most, Low}
+use Rattle.labels.specs.Counts.{Raised, Counted, CountsOf, onceAt, badBy}
+use Rattle.short.proofs.Programs.{blank, pick-le, getD-same, take-more}
 
 -- ---- how often a label stands in a list
-pub times-append : (x : ℕ) (l m : List ℕ) → times x (l ++ m) ≡ times x l + times x m
-unfolding times
-times-append x [] m = sym (zero-add (times x m))
-times-append x (y ∷ l) m = rw (times-append x l m) (sym (add-assoc (pick (eqb y x) 1 0) (times x l) (times x m)))
-
 pub times-le : (x : ℕ) (l : List ℕ) → times x l ≤ length l
 unfolding times
 times-le x [] = omega arith

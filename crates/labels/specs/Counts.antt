@@ -1,24 +1,16 @@
 -- Tables of counts, one for each label, and code 10 read off them.
-use Prim.Native.Nat.{ℕ, _+_, _*_, _≤_}
+use Prim.Native.Nat.{ℕ, _+_}
 use mathlib.Core.Path.{_≡_}
 use mathlib.Core.Bool.{Bool, not, _&&_}
 use mathlib.Core.List.{List, _++_}
 use lib.ListN.{length, getD}
 use lib.Dec.{eqb}
 use Rattle.rules.specs.Base.{times, each-of, lowest}
-use Rattle.rules.specs.Format.{mostBlocks, labels}
+use Rattle.rules.specs.Format.{labels}
 use Rattle.rules.specs.Labels.{entryLabels, exitLabels, beginLabels, endLabels, count, blockOf, bad10}
 use Rattle.rules.specs.declared.Block.{Block}
-use Rattle.labels.specs.declared.counts.Counts.{Counts}
-use Rattle.labels.specs.declared.counts.Labelled.{Labelled}
-
--- blocks have at most eight labels each
-abbrev pub most : ℕ
-most = 8 * mostBlocks
-
--- no count is over m
-abbrev pub Low : ℕ → List ℕ → Type 0
-Low m a = (x : ℕ) → getD a x 0 ≤ m
+use Rattle.labels.specs.declared.Counts.{Counts}
+use Rattle.labels.specs.declared.Labelled.{Labelled}
 
 -- each of the labels is counted besides
 pub record Raised (before labels after : List ℕ) : Type 0 where

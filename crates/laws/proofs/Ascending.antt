@@ -12,7 +12,7 @@ use Rattle.rules.specs.Machine.{Process, Kept, standing}
 use Rattle.rules.specs.Fits.{ascending}
 use Rattle.rules.specs.Step.{moveRow, closeUp}
 use Rattle.rules.specs.declared.Place.{Place}
-use Rattle.laws.proofs.Lists.{and-both, both-and, true-false}
+use Rattle.laws.proofs.Tests.{and-true, true-and, true-false}
 
 -- every row has a lower, or a higher, identifier than p; none has p
 abbrev pub AllBelow : ℕ → List Process → Type 0
@@ -27,22 +27,22 @@ NoneIs p rows = each-of (λ r. not (eqb (r .identifier) p)) rows ≡ true
 pub ascending-tail : (r : Process) (rows : List Process) → ascending (r ∷ rows) ≡ true → ascending rows ≡ true
 unfolding ascending
 ascending-tail r [] h = refl
-ascending-tail r (s ∷ rows) h = and-both (ltb (r .identifier) (s .identifier)) (ascending (s ∷ rows)) h .1
+ascending-tail r (s ∷ rows) h = and-true (ltb (r .identifier) (s .identifier)) (ascending (s ∷ rows)) h .1
 
 above-lower : (p q : ℕ) (rows : List Process) → p < q → AllAbove q rows → AllAbove p rows
 unfolding each-of
 above-lower p q [] h a = refl
 above-lower p q (r ∷ rows) h a =
-    let e = and-both (ltb q (r .identifier)) (each-of (λ x. ltb q (x .identifier)) rows) a in
+    let e = and-true (ltb q (r .identifier)) (each-of (λ x. ltb q (x .identifier)) rows) a in
     let g : q < r .identifier = ltb-true _ _ (e .0) in
-    both-and (lt-ltb p (r .identifier) (omega arith)) (above-lower p q rows h (e .1))
+    true-and _ _ (lt-ltb p (r .identifier) (omega arith)) (above-lower p q rows h (e .1))
 
 pub ascending-head : (r : Process) (rows : List Process) → ascending (r ∷ rows) ≡ true → AllAbove (r .identifier) rows
 unfolding each-of ascending
 ascending-head r [] h = refl
 ascending-head r (s ∷ rows) h =
-    let e = and-both (ltb (r .identifier) (s .identifier)) (ascending (s ∷ rows)) h in
-    both-and (e .0) (above-lower (r .identifier) (s .identifier) rows (ltb-true _ _ (e .0)) (ascending-head s rows (e .1)))
+    let e = and-true (ltb (r .identifier) (s .identifier)) (ascending (s ∷ rows)) h in
+    true-and _ _ (e .0) (above-lower (r .identifier) (s .identifier) rows (ltb-true _ _ (e .0)) (ascending-head s rows (e .1)))
 
 -- rows that ascend, with one row in their midst
 pub record Apart (A : List Process) (r : Process) (B : List Process) : Type 0 where
@@ -53,16 +53,16 @@ pub record Apart (A : List Process) (r : Process) (B : List Process) : Type 0 wh
 
 in-midst : (p : ℕ) (A : List Process) (r : Process) (B : List Process) → AllAbove p (A ++ r ∷ B) → p < r .identifier
 unfolding each-of
-in-midst p [] r B h = ltb-true _ _ (and-both (ltb p (r .identifier)) (each-of (λ x. ltb p (x .identifier)) B) h .0)
-in-midst p (a ∷ A) r B h = in-midst p A r B (and-both (ltb p (a .identifier)) (each-of (λ x. ltb p (x .identifier)) (A ++ r ∷ B)) h .1)
+in-midst p [] r B h = ltb-true _ _ (and-true (ltb p (r .identifier)) (each-of (λ x. ltb p (x .identifier)) B) h .0)
+in-midst p (a ∷ A) r B h = in-midst p A r B (and-true (ltb p (a .identifier)) (each-of (λ x. ltb p (x .identifier)) (A ++ r ∷ B)) h .1)
 
 front-ascends : (A : List Process) (r : Process) (B : List Process) → ascending (A ++ r ∷ B) ≡ true → ascending A ≡ true
 unfolding ascending
 front-ascends [] r B h = refl
 front-ascends (a ∷ []) r B h = refl
 front-ascends (a ∷ b ∷ A) r B h =
-    let e = and-both (ltb (a .identifier) (b .identifier)) (ascending (b ∷ (A ++ r ∷ B))) h in
-    both-and (e .0) (front-ascends (b ∷ A) r B (e .1))
+    let e = and-true (ltb (a .identifier) (b .identifier)) (ascending (b ∷ (A ++ r ∷ B))) h in
+    true-and _ _ (e .0) (front-ascends (b ∷ A) r B (e .1))
 
 back-ascends : (A : List Process) (r : Process) (B : List Process) → ascending (A ++ r ∷ B) ≡ true → ascending (r ∷ B) ≡ true
 back-ascends [] r B h = h
@@ -72,7 +72,7 @@ before-of : (A : List Process) (r : Process) (B : List Process) → ascending (A
 unfolding each-of
 before-of [] r B h = refl
 before-of (a ∷ A) r B h =
-    both-and (lt-ltb (a .identifier) (r .identifier) (in-midst (a .identifier) A r B (ascending-head a (A ++ r ∷ B) h)))
+    true-and _ _ (lt-ltb (a .identifier) (r .identifier) (in-midst (a .identifier) A r B (ascending-head a (A ++ r ∷ B) h)))
     (before-of A r B (ascending-tail a (A ++ r ∷ B) h))
 
 pub apart : (A : List Process) (r : Process) (B : List Process) → ascending (A ++ r ∷ B) ≡ true → Apart A r B
@@ -84,17 +84,17 @@ pub none-below : (p : ℕ) (rows : List Process) → AllBelow p rows → NoneIs 
 unfolding each-of
 none-below p [] h = refl
 none-below p (r ∷ rows) h =
-    let e = and-both (ltb (r .identifier) p) (each-of (λ x. ltb (x .identifier) p) rows) h in
+    let e = and-true (ltb (r .identifier) p) (each-of (λ x. ltb (x .identifier) p) rows) h in
     let g : r .identifier < p = ltb-true _ _ (e .0) in
-    both-and (ap not (ne-eqb (r .identifier) p (λ q. omega arith))) (none-below p rows (e .1))
+    true-and _ _ (ap not (ne-eqb (r .identifier) p (λ q. omega arith))) (none-below p rows (e .1))
 
 pub none-above : (p : ℕ) (rows : List Process) → AllAbove p rows → NoneIs p rows
 unfolding each-of
 none-above p [] h = refl
 none-above p (r ∷ rows) h =
-    let e = and-both (ltb p (r .identifier)) (each-of (λ x. ltb p (x .identifier)) rows) h in
+    let e = and-true (ltb p (r .identifier)) (each-of (λ x. ltb p (x .identifier)) rows) h in
     let g : p < r .identifier = ltb-true _ _ (e .0) in
-    both-and (ap not (ne-eqb (r .identifier) p (λ q. omega arith))) (none-above p rows (e .1))
+    true-and _ _ (ap not (ne-eqb (r .identifier) p (λ q. omega arith))) (none-above p rows (e .1))
 
 is-not : (b : Bool) → not b ≡ true → b ≡ false
 is-not true h = absurd (true-false h refl)
@@ -105,14 +105,14 @@ pub standing-at : (A : List Process) (r : Process) (B : List Process) → NoneIs
 unfolding standing each-of pick
 standing-at [] r B h = rw (eq-eqb (r .identifier) (r .identifier) refl)
 standing-at (a ∷ A) r B h =
-    let e = and-both (not (eqb (a .identifier) (r .identifier))) (each-of (λ x. not (eqb (x .identifier) (r .identifier))) A) h in
+    let e = and-true (not (eqb (a .identifier) (r .identifier))) (each-of (λ x. not (eqb (x .identifier) (r .identifier))) A) h in
     rw (is-not (eqb (a .identifier) (r .identifier)) (e .0)) (standing-at A r B (e .1))
 
 pub standing-none : (p : ℕ) (rows : List Process) → NoneIs p rows → standing rows p ≡ none
 unfolding standing each-of pick
 standing-none p [] h = refl
 standing-none p (r ∷ rows) h =
-    let e = and-both (not (eqb (r .identifier) p)) (each-of (λ x. not (eqb (x .identifier) p)) rows) h in
+    let e = and-true (not (eqb (r .identifier) p)) (each-of (λ x. not (eqb (x .identifier) p)) rows) h in
     rw (is-not (eqb (r .identifier) p) (e .0)) (standing-none p rows (e .1))
 
 -- a row moved
@@ -120,7 +120,7 @@ move-none : (p : ℕ) (q : Place) (rows : List Process) → NoneIs p rows → mo
 unfolding moveRow each-of pick
 move-none p q [] h = refl
 move-none p q (r ∷ rows) h =
-    let e = and-both (not (eqb (r .identifier) p)) (each-of (λ x. not (eqb (x .identifier) p)) rows) h in
+    let e = and-true (not (eqb (r .identifier) p)) (each-of (λ x. not (eqb (x .identifier) p)) rows) h in
     rw (is-not (eqb (r .identifier) p) (e .0)) (ap (λ (l : List Process). r ∷ l) (move-none p q rows (e .1)))
 
 pub move-at :
@@ -131,7 +131,7 @@ move-at [] r B q h k =
     rw (eq-eqb (r .identifier) (r .identifier) refl)
     (ap (λ (l : List Process). record { identifier = r .identifier; stands = q } ∷ l) (move-none (r .identifier) q B k))
 move-at (a ∷ A) r B q h k =
-    let e = and-both (not (eqb (a .identifier) (r .identifier))) (each-of (λ x. not (eqb (x .identifier) (r .identifier))) A) h in
+    let e = and-true (not (eqb (a .identifier) (r .identifier))) (each-of (λ x. not (eqb (x .identifier) (r .identifier))) A) h in
     rw (is-not (eqb (a .identifier) (r .identifier)) (e .0)) (ap (λ (l : List Process). a ∷ l) (move-at A r B q (e .1) k))
 
 -- ---- history

@@ -20,7 +20,7 @@ use Rattle.rules.specs.declared.Entry.{Entry}
 use Rattle.rules.specs.declared.Exit.{Exit}
 use Rattle.rules.specs.declared.Block.{Block}
 use Rattle.laws.specs.Fit.{Bytes, OperandFit, TargetFit, ExpressionFit, EntryFit, ExitFit, NamesFit, InstructionFit, IsFrom, IsTo, BlockFit}
-use Rattle.laws.proofs.Lists.{and-both}
+use Rattle.laws.proofs.Tests.{and-true}
 
 -- ---- what is read keeps to it
 abbrev Holds : {A : Type 0} → (A → Type 0) → Reading A → Type 0
@@ -186,7 +186,7 @@ module _ (s : List ℕ) (bytes : Bytes s) where
     where
       counted : (at : ℕ) (e : Entry) → (leb 0x51 (byteAt s at) && leb (byteAt s at) 0x58) ≡ true → Holds (After e) (callAt s at e (byteAt s at - 0x50))
       counted at e h =
-          let q = and-both (leb 0x51 (byteAt s at)) (leb (byteAt s at) 0x58) h in
+          let q = and-true (leb 0x51 (byteAt s at)) (leb (byteAt s at) 0x58) h in
           let lo : 0x51 ≤ byteAt s at = leb-true _ _ (q .0) in
           let hi : byteAt s at ≤ 0x58 = leb-true _ _ (q .1) in
           call-fit at e (byteAt s at - 0x50) (omega arith) (omega arith)

@@ -1,6 +1,7 @@
 -- Laws that other crates cite.
 pub mod Search
 pub mod Lists
+pub mod Times
 pub mod CallTable
 pub mod Pack
 pub mod Ascending

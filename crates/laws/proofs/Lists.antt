@@ -1,22 +1,13 @@
 -- Laws of the plain words of Base: choice, tests over a list, the elements that pass. Assumes nothing.
-use mathlib.Core.Path.{_≡_, refl, ap, _∙_}
-use mathlib.Core.Bool.{Bool, true, false, not, _&&_}
+use mathlib.Core.Path.{_≡_, refl, sym, ap, _∙_}
+use mathlib.Core.Bool.{Bool, true, false, not, _&&_, and-false}
 use mathlib.Core.List.{List, [], _∷_, _++_}
 use Prim.Native.Nat.{ℕ, zero, suc, _<_}
 use native.Mathlib.Nat.{not-suc-le-zero, le-of-suc-le-suc}
 use lib.ListN.{length, getD}
 use native.Mathlib.Omega.{arith}
 use Rattle.rules.specs.Base.{pick, each-of, those}
-
-pub true-false : {b : Bool} → b ≡ true → b ≡ false → ⊥
-true-false p q = let z : _≡_ {A = ℕ} 0 1 = cc in omega arith
-
-pub and-both : (a b : Bool) → (a && b) ≡ true → (a ≡ true) × (b ≡ true)
-and-both true b h = (refl, h)
-and-both false b h = absurd (true-false h refl)
-
-pub both-and : {a b : Bool} → a ≡ true → b ≡ true → (a && b) ≡ true
-both-and p q = rw (p, q)
+use Rattle.theory.specs.Tests.{true-false, and-true, true-and}
 
 module _ {A : Type 0} where
   pub each-append : (p : A → Bool) (l m : List A) → each-of p (l ++ m) ≡ (each-of p l && each-of p m)
@@ -42,7 +33,7 @@ module _ {A : Type 0} where
   unfolding those each-of pick
   those-all p [] h = refl
   those-all p (a ∷ l) h =
-      let e = and-both (p a) (each-of p l) h in
+      let e = and-true (p a) (each-of p l) h in
       rw (e .0) (ap (λ (r : List A). a ∷ r) (those-all p l (e .1)))
 
   -- where none does, none stays
@@ -50,7 +41,7 @@ module _ {A : Type 0} where
   unfolding those each-of pick
   those-none p [] h = refl
   those-none p (a ∷ l) h =
-      let e = and-both (not (p a)) (each-of (λ x. not (p x)) l) h in
+      let e = and-true (not (p a)) (each-of (λ x. not (p x)) l) h in
       rw (not-not (p a) (e .0)) (those-none p l (e .1))
     where
       not-not : (b : Bool) → not b ≡ true → b ≡ false
@@ -62,3 +53,33 @@ module _ {A : Type 0} where
   getD-any [] i d e h = absurd (not-suc-le-zero h)
   getD-any (a ∷ l) zero d e h = refl
   getD-any (a ∷ l) (suc i) d e h = getD-any l i d e (le-of-suc-le-suc h)
+
+  pub pick-true : (t : Bool) (a b : A) → t ≡ true → pick t a b ≡ a
+  unfolding pick
+  pick-true t a b h = rw h
+
+  pub pick-false : (t : Bool) (a b : A) → t ≡ false → pick t a b ≡ b
+  unfolding pick
+  pick-false t a b h = rw h
+
+  pub each-parts : (p : A → Bool) (l m : List A) → each-of p (l ++ m) ≡ true → (each-of p l ≡ true) × (each-of p m ≡ true)
+  each-parts p l m h = and-true (each-of p l) (each-of p m) (sym (each-append p l m) ∙ h)
+
+-- a test of each element, by the elements' places
+module _ {A : Type 0} (p : A → Bool) (d : A) where
+  pub each-true : (l : List A) → ((i : ℕ) → i < length l → p (getD l i d) ≡ true) → each-of p l ≡ true
+  unfolding each-of
+  each-true [] h = refl
+  each-true (a ∷ l) h = true-and _ _ (h 0 (omega arith)) (each-true l (λ i k. h (suc i) (omega arith)))
+
+  pub each-at : (l : List A) → each-of p l ≡ true → (i : ℕ) → i < length l → p (getD l i d) ≡ true
+  unfolding each-of
+  each-at [] h i k = absurd (omega arith)
+  each-at (a ∷ l) h zero k = and-true (p a) (each-of p l) h .0
+  each-at (a ∷ l) h (suc i) k = each-at l (and-true (p a) (each-of p l) h .1) i (omega arith)
+
+  pub each-false : (l : List A) (i : ℕ) → i < length l → p (getD l i d) ≡ false → each-of p l ≡ false
+  unfolding each-of
+  each-false [] i k h = absurd (omega arith)
+  each-false (a ∷ l) zero k h = rw h
+  each-false (a ∷ l) (suc i) k h = rw (each-false l i (omega arith) h) (and-false (p a))

@@ -11,7 +11,7 @@ use borrow.Author.Tests.{eqb-true, leb-true}
 use Rattle.rules.specs.Base.{each-of, zeros}
 use Rattle.rules.specs.Machine.{Process, Kept, Machine, packRows, packHistory, padded, pack, view, viewRows, viewHistory, liveCount, historyCount}
 use Rattle.rules.specs.Fits.{countsFit, unusedZero}
-use Rattle.laws.proofs.Lists.{and-both}
+use Rattle.laws.proofs.Tests.{and-true}
 
 -- the sizes that a machine keeps
 pub record Sized (m : Machine) : Type 0 where
@@ -146,15 +146,15 @@ pub all-zeros : (l : List ℕ) → each-of (λ x. eqb x 0) l ≡ true → l ≡ 
 unfolding each-of
 all-zeros [] h = refl
 all-zeros (x ∷ l) h =
-    let e = and-both (eqb x 0) (each-of (λ y. eqb y 0) l) h in
+    let e = and-true (eqb x 0) (each-of (λ y. eqb y 0) l) h in
     ap₂ (λ (a : ℕ) (r : List ℕ). a ∷ r) (eqb-true x 0 (e .0)) (all-zeros l (e .1))
 
 -- the two clauses of code 17 that speak of words alone, on words of the right length
 pub clean : (w : List ℕ) → length w ≡ 8674 → countsFit w ≡ true → unusedZero w ≡ true → Clean w
 unfolding countsFit unusedZero
 clean w long c u =
-    let cs = and-both _ _ c in
-    let us = and-both _ _ u in
+    let cs = and-true _ _ c in
+    let us = and-true _ _ u in
     let live : liveCount w ≤ 64 = leb-true _ _ (cs .0) in
     let kept : historyCount w ≤ 4096 = leb-true _ _ (cs .1) in
     let lr : length (take 192 (drop 290 w)) ≡ 192 = length-take-le 192 (drop 290 w) (simp length-drop (omega arith)) in

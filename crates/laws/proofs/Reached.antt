@@ -12,14 +12,14 @@ use lib.Dec.{eqb}
 use borrow.Author.Tests.{eqb-true, eq-eqb}
 use Rattle.rules.specs.Base.{some-of}
 use Rattle.rules.specs.Calls.{Calling, homeAt, callsAt, Reaches, names, onward, reachesOver, reaches}
-use Rattle.laws.proofs.Tests.{never, or-true, or-left, or-right, and-true}
+use Rattle.laws.proofs.Tests.{never, or-cases, or-left, or-right, and-true}
 
 -- a label that is called, and the test for it
 named-from : (l : ℕ) (ls : List ℕ) → some-of (λ m. eqb m l) ls ≡ true → List·Memᴰ l ls
 unfolding some-of
 named-from l [] h = never h
 named-from l (m ∷ ls) h =
-    ⊎-elim (λ e. List·Memᴰ·head (sym (eqb-true m l e))) (λ e. List·Memᴰ·tail (named-from l ls e)) (or-true (eqb m l) _ h)
+    ⊎-elim (λ e. List·Memᴰ·head (sym (eqb-true m l e))) (λ e. List·Memᴰ·tail (named-from l ls e)) (or-cases (eqb m l) _ h)
 
 named-at : (l : ℕ) (ls : List ℕ) → List·Memᴰ l ls → some-of (λ m. eqb m l) ls ≡ true
 unfolding some-of
@@ -33,7 +33,7 @@ module _ (t : Calling) where
       → (reachesOver t n b c ≡ true) ⊎ ((reachesOver t n b n ≡ true) × (reachesOver t n n c ≡ true))
   unfolding reachesOver
   split n b c h =
-      ⊎-elim inl (λ a. inr (and-true (reachesOver t n b n) (reachesOver t n n c) a)) (or-true (reachesOver t n b c) _ h)
+      ⊎-elim inl (λ a. inr (and-true (reachesOver t n b n) (reachesOver t n n c) a)) (or-cases (reachesOver t n b c) _ h)
 
   stays : (n b c : ℕ) → reachesOver t n b c ≡ true → reachesOver t (suc n) b c ≡ true
   unfolding reachesOver

@@ -1,38 +1,14 @@
 -- Tests that are joined by "or" and "and". Assumes nothing.
 use mathlib.Core.Path.{_≡_, refl}
 use mathlib.Core.Bool.{Bool, true, false, _&&_, _||_}
-use mathlib.Core.Logic.{_⊎_, inl, inr}
 use Prim.Native.Nat.{ℕ, _≤_, min, max}
 use native.Mathlib.Omega.{arith}
 use Rattle.rules.specs.Value.{flag}
+pub use Rattle.theory.specs.Tests.{true-false, and-true, true-and, or-cases, or-left, or-right}
 
 pub never : {A : Type 0} → false ≡ true → A
-never h = absurd (let z : _≡_ {A = ℕ} 0 1 = cc in omega arith)
+never h = absurd (true-false h refl)
 
-pub or-true : (a b : Bool) → a || b ≡ true → (a ≡ true) ⊎ (b ≡ true)
-or-true true b h = inl refl
-or-true false b h = inr h
-
-pub or-left : (a b : Bool) → a ≡ true → a || b ≡ true
-or-left a b h = rw h
-
-pub or-right : (a b : Bool) → b ≡ true → a || b ≡ true
-or-right true b h = refl
-or-right false b h = h
-
-pub or-assoc : (a b c : Bool) → (a || b) || c ≡ a || (b || c)
-or-assoc true b c = refl
-or-assoc false b c = refl
-
-pub or-false : (a : Bool) → a || false ≡ a
-or-false true = refl
-or-false false = refl
-
-pub and-true : (a b : Bool) → a && b ≡ true → (a ≡ true) × (b ≡ true)
-and-true true b h = (refl, h)
-and-true false b h = never h
-
--- as 1 and 0, "or" is the larger and "and" the smaller
 pub flag-or-and : (a b c : Bool) → flag (a || (b && c)) ≡ max (flag a) (min (flag b) (flag c))
 flag-or-and true true true = refl
 flag-or-and true true false = refl

@@ -1,3 +1,3 @@
 -- Laws that other crates cite.
-pub mod Tries
+pub mod Sides
 pub mod Planned

@@ -23,7 +23,7 @@ use Rattle.leaf.specs.declared.place.Side.{Side}
 use Rattle.leaf.specs.declared.plan.LeafPlan.{LeafPlan}
 use Rattle.leaf.specs.Shown.{Plans, PlanFit, planShown, movedTo}
 use Rattle.leaf.specs.Side.{SideFit, sidePlace, leafStep}
-use Rattle.leaf.proofs.Tries.{forward-is, undo-is}
+use Rattle.leaf.proofs.Sides.{forward-is, undo-is}
 
 -- ---- a plan that moves, and one that is refused
 module _ {memory : List ℕ} {r : LeafPlan} {t : Tried Moved} (h : Plans memory r t) where

@@ -13,13 +13,6 @@ ghost use Rattle.evaluate.specs.Shown.{written, valuedShown};
 ghost use Rattle.leaf.specs.Shown.{placedShown};
 ghost use Rattle.leaf.specs.Side.{SideFit, sidePlace};
 
-// Stages.
-const BEGIN: u32 = 0;
-
-const RUN: u32 = 1;
-
-const END: u32 = 2;
-
 // A place, or the refusal 25.
 pub enum Placed {
     At(Place),
@@ -48,9 +41,9 @@ fn chosen(first: u8, second: u8, condition: Valued) -> Placed
     match condition {
         Valued::Value(v) => {
             if v == 0 {
-                return Placed::At(place_of(second, RUN));
+                return Placed::At(place_of(second, Place::RUN));
             }
-            Placed::At(place_of(first, RUN))
+            Placed::At(place_of(first, Place::RUN))
         }
         Valued::Outside => Placed::Outside,
     }
@@ -61,13 +54,13 @@ fn entry_place(memory: &[u32], writes: Writes, entry: Entry) -> Placed
     ensures { λ r. ⌜ placedShown r ≡ entryPlace (written writes (now (memory .entry))) entry ⌝ }
 {
     match entry {
-        Entry::From(label) => Placed::At(place_of(label, RUN)),
+        Entry::From(label) => Placed::At(place_of(label, Place::RUN)),
         Entry::Either(first, second, e) => chosen(
             first,
             second,
             evaluate::expression(memory, writes, e),
         ),
-        Entry::Begin(label) => Placed::At(place_of(label, BEGIN)),
+        Entry::Begin(label) => Placed::At(place_of(label, Place::BEGIN)),
     }
 }
 
@@ -76,13 +69,13 @@ fn exit_place(memory: &[u32], writes: Writes, exit: Exit) -> Placed
     ensures { λ r. ⌜ placedShown r ≡ exitPlace (written writes (now (memory .entry))) exit ⌝ }
 {
     match exit {
-        Exit::To(label) => Placed::At(place_of(label, RUN)),
+        Exit::To(label) => Placed::At(place_of(label, Place::RUN)),
         Exit::Either(e, first, second) => chosen(
             first,
             second,
             evaluate::expression(memory, writes, e),
         ),
-        Exit::End(label) => Placed::At(place_of(label, END)),
+        Exit::End(label) => Placed::At(place_of(label, Place::END)),
     }
 }
 

@@ -1,9 +1,9 @@
 // The step of a leaf: where the process goes and what is written, or the first refusal met.
-use crate::MEMORY;
-use crate::ROWS;
-use super::act::Acted;
 use super::place::Placed;
 use super::place::Side;
+use crate::MEMORY;
+use crate::ROWS;
+use act::Acted;
 use evaluate::Writes;
 use rules::Block;
 use rules::Instruction;
@@ -18,7 +18,8 @@ ghost use Rattle.rules.specs.Machine.{memoryWords, machineWords, view};
 ghost use Rattle.rules.specs.Leaf.{after, leafForward, leafUndo};
 ghost use Rattle.laws.specs.Fit.{InstructionFit, BlockFit};
 ghost use Rattle.evaluate.specs.Shown.{WritesFit, written};
-ghost use Rattle.leaf.specs.Shown.{ActedFit, actedShown, placedShown, Plans};
+ghost use Rattle.act.specs.Acts.{ActedFit, actedShown};
+ghost use Rattle.leaf.specs.Shown.{placedShown, Plans};
 ghost use Rattle.leaf.specs.Side.{SideFit, sidePlace, leading, leafStep};
 
 // Where the process then stands and what is written, or the code of a refusal: 22 to 25.
@@ -66,7 +67,7 @@ fn step(memory: &[u32], here: Place, from: Side, instruction: Instruction, to: S
     match super::place::side_place(memory, Writes::Nothing, from) {
         Placed::At(q) => {
             if same_place(q, here) {
-                return onward(memory, super::act::act(memory, instruction), to);
+                return onward(memory, act::act(memory, instruction), to);
             }
             LeafPlan::Refused(22)
         }
@@ -97,6 +98,6 @@ pub fn undo(m: &[u32], here: Place, block: Block) -> LeafPlan
     let exit = block.exit;
     let from = Side::Exit(exit);
     let to = Side::Entry(entry);
-    let inverse = super::act::inverse(instruction);
+    let inverse = act::inverse(instruction);
     step(&m[MEMORY..ROWS], here, from, inverse, to)
 }

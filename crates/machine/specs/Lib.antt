@@ -1,4 +1,3 @@
-pub mod Edit
 pub mod Index
 pub mod Outcome
 pub mod RowOf

@@ -1,7 +1,5 @@
 // The machine: one lent slice of 8,674 words, with each field at its fixed word (document 01, "The machine"). Here are the words'
-// places, identifiers, the start, and the edits in place; laws in proofs/ take each edit to `pack` of the changed machine.
-pub mod edit;
-pub mod identifier;
+// places, the start, and the search for a process's row.
 pub mod find;
 pub mod start;
 
@@ -16,3 +14,15 @@ pub const MEMORY: usize = 2;
 pub const ROWS: usize = 290;
 
 pub const HISTORY: usize = 482;
+
+// Where the label and the stage of the first row stand, and the block of the first history entry.
+pub const LABEL: usize = 291;
+
+pub const STAGE: usize = 292;
+
+pub const BLOCK: usize = 483;
+
+// The most rows and history entries.
+pub const MOST_ROWS: usize = 64;
+
+pub const MOST_KEPT: u32 = 4096;

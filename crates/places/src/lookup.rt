@@ -1,4 +1,5 @@
 // The block at any label and stage, looked up in the tables.
+use rules::Place;
 ghost use mathlib.Core.List.{List};
 ghost use mathlib.Core.Path.{_≡_};
 ghost use lib.ListN.{length, getD};
@@ -6,13 +7,6 @@ ghost use Rattle.rules.specs.Machine.{place};
 ghost use Rattle.rules.specs.Fits.{entryBlock, exitBlock};
 ghost use Rattle.rules.specs.declared.Block.{Block};
 ghost use Rattle.places.specs.Places.{Entries, Exits};
-
-// The stages.
-pub const BEGIN: u32 = 0;
-
-pub const RUN: u32 = 1;
-
-pub const END: u32 = 2;
 
 // One past the highest label.
 const LABELS: u32 = 256;
@@ -31,10 +25,10 @@ fn at(table: &[u8; 256], n: usize, label: u32) -> usize
 pub fn entry_block(runs: &[u8; 256], begins: &[u8; 256], n: usize, label: u32, stage: u32) -> usize
     ensures { λ r. ⌜ ((program : List Block) → Entries program n (now (runs .entry)) (now (begins .entry)) → r ≡ entryBlock program (place label stage)) ⌝ }
 {
-    if stage == RUN {
+    if stage == Place::RUN {
         return at(runs, n, label);
     }
-    if stage == BEGIN {
+    if stage == Place::BEGIN {
         return at(begins, n, label);
     }
     n
@@ -44,10 +38,10 @@ pub fn entry_block(runs: &[u8; 256], begins: &[u8; 256], n: usize, label: u32, s
 pub fn exit_block(runs: &[u8; 256], ends: &[u8; 256], n: usize, label: u32, stage: u32) -> usize
     ensures { λ r. ⌜ ((program : List Block) → Exits program n (now (runs .entry)) (now (ends .entry)) → r ≡ exitBlock program (place label stage)) ⌝ }
 {
-    if stage == RUN {
+    if stage == Place::RUN {
         return at(runs, n, label);
     }
-    if stage == END {
+    if stage == Place::END {
         return at(ends, n, label);
     }
     n

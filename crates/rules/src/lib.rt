@@ -114,6 +114,15 @@ pub struct Place {
     pub stage: u32,
 }
 
+// The stages.
+impl Place {
+    pub const BEGIN: u32 = 0;
+
+    pub const RUN: u32 = 1;
+
+    pub const END: u32 = 2;
+}
+
 // One row of the list.
 #[repr(C)]
 pub struct Row {

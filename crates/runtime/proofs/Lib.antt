@@ -1,6 +1,2 @@
--- Laws that the proofs of starting and stepping cite.
+-- Laws that the proofs of starting, stepping and listing cite.
 pub mod Judged
-pub mod Blocks
-pub mod Known
-pub mod Codes
-pub mod Rows

@@ -1,4 +1,2 @@
 -- Definitions that the contracts of starting and stepping cite.
 pub mod Outcome
-pub mod Known
-pub mod Readiness

@@ -1,8 +1,7 @@
 -- What a function answers and what it leaves in the lent slice, together.
-use mathlib.Core.List.{List}
-use Prim.Native.Nat.{ℕ}
 use Rattle.rules.specs.Words.{Outcome}
 use Rattle.rules.specs.declared.Answer.{Answer}
 
-abbrev pub outcomeOf : Answer → List ℕ → Outcome (List ℕ)
-outcomeOf answer words = record { answer = answer; leaves = words }
+module _ {Lent : Type 0} where
+  abbrev pub outcomeOf : Answer → Lent → Outcome Lent
+  outcomeOf answer lent = record { answer = answer; leaves = lent }

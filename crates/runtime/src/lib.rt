@@ -6,7 +6,6 @@ use rules::Answer;
 use rules::Judgement;
 
 pub mod readiness;
-pub mod row;
 pub mod stepping;
 
 // The root at main, begin, with no history: every word is written. A refusal leaves every word as handed in.

@@ -1,151 +1,24 @@
-// The readiness answers, document 01, "The list": for each live process the code that a forward step would answer, and that an undo
-// would. They only read; the list into lent rows is written from them.
-use super::row::code_of;
-use rules::Block;
+// The list on the lent words, document 01: the codes of judging, then the readiness answers on the decoded blocks.
 use rules::Judgement;
+use table::Listing;
 ghost use mathlib.Core.Path.{_≡_};
-ghost use Prim.Native.Nat.{_<_, _≤_};
-ghost use lib.ListN.{take, replicate};
-ghost use Rattle.rules.specs.Machine.{liveCount, view};
-ghost use Rattle.rules.specs.Step.{forward, undo};
-ghost use Rattle.rules.specs.List.{codeOf, zeroRow, rowsOf, listIn, list as List·list};
-ghost use Rattle.theorems.specs.Program.{Sound};
-ghost use Rattle.cause.specs.Held.{Masks};
-ghost use Rattle.places.specs.Places.{Entries, Exits};
-ghost use Rattle.step.specs.Ready.{processAt, hereAt};
-ghost use Rattle.runtime.specs.Known.{Known};
-ghost use Rattle.runtime.specs.Readiness.{shown};
-
-// The answer, and where its code is 0 one number a live process in each array, the rest 0.
-pub struct Readiness {
-    pub code: u32,
-    pub place: u32,
-    pub identifiers: [u32; 64],
-    pub forwards: [u32; 64],
-    pub undos: [u32; 64],
-}
-
-fn refused(code: u32, place: u32) -> Readiness
-    ensures { λ r. ⌜ shown r ≡ record { answer = record { code = code; place = place }; leaves = replicate 64 zeroRow } ⌝ }
-{
-    Readiness {
-        code,
-        place,
-        identifiers: [0u32; 64],
-        forwards: [0u32; 64],
-        undos: [0u32; 64],
-    }
-}
-
-// The two codes of the process of a row.
-pub struct Codes {
-    pub forward: u32,
-    pub undo: u32,
-}
-
-fn codes_at(
-    m: &[u32],
-    blocks: [Block; 128],
-    n: usize,
-    entries: &[u8; 256],
-    exits: &[u8; 256],
-    begins: &[u8; 256],
-    ends: &[u8; 256],
-    reads: &[u64; 128],
-    writes: &[u64; 128],
-    row: usize,
-) -> Codes
-    requires { ⌜ Known (take n blocks) (now m) × (n ≤ 128) × (row < liveCount (now m)) × Entries (take n blocks) n (now entries) (now begins) × Exits (take n blocks) n (now exits) (now ends) × Masks (take n blocks) (now reads) (now writes) ⌝ }
-    ensures { λ r. ⌜ (r .forward ≡ codeOf (forward (take n blocks) (view (now (m .entry))) (processAt (now (m .entry)) row) (hereAt (now (m .entry)) row))) × (r .undo ≡ codeOf (undo (take n blocks) (view (now (m .entry))) (processAt (now (m .entry)) row) (hereAt (now (m .entry)) row))) ⌝ }
-{
-    let ahead = super::row::forward_plan(m, blocks, n, entries, exits, begins, ends, row);
-    let back = super::row::undo_plan(m, blocks, n, exits, ends, reads, writes, row);
-    Codes {
-        forward: code_of(ahead),
-        undo: code_of(back),
-    }
-}
-
-// The rows of a machine that fits.
-fn rows_of(
-    m: &[u32],
-    blocks: [Block; 128],
-    n: usize,
-    entries: &[u8; 256],
-    exits: &[u8; 256],
-    begins: &[u8; 256],
-    ends: &[u8; 256],
-) -> Readiness
-    requires { ⌜ Known (take n blocks) (now m) × (n ≤ 128) × Entries (take n blocks) n (now entries) (now begins) × Exits (take n blocks) n (now exits) (now ends) ⌝ }
-    ensures { λ r. ⌜ shown r ≡ record { answer = record { code = 0; place = 0 }; leaves = rowsOf (take n blocks) (view (now (m .entry))) } ⌝ }
-{
-    let tables = cause::masks::masks(blocks, n);
-    let reads = tables.reads;
-    let writes = tables.writes;
-    let live = laws::wide(m[0]);
-    let mut identifiers = [0u32; 64];
-    let mut forwards = [0u32; 64];
-    let mut undos = [0u32; 64];
-    let mut i: usize = 0;
-    while i < live {
-        let codes = codes_at(
-            m,
-            blocks,
-            n,
-            entries,
-            exits,
-            begins,
-            ends,
-            &reads,
-            &writes,
-            i,
-        );
-        identifiers[i] = step::row::identifier(m, i);
-        forwards[i] = codes.forward;
-        undos[i] = codes.undo;
-        i += 1;
-    }
-    Readiness {
-        code: 0,
-        place: 0,
-        identifiers,
-        forwards,
-        undos,
-    }
-}
-
-// On the blocks of an accepted image, for any words.
-fn ready_on(m: &[u32], blocks: [Block; 128], n: usize) -> Readiness
-    requires { ⌜ Sound (take n blocks) × (n ≤ 128) ⌝ }
-    ensures { λ r. ⌜ shown r ≡ listIn (now (m .entry)) (replicate 64 zeroRow) (take n blocks) ⌝ }
-{
-    if m.len() != machine::WORDS {
-        return refused(16, 0);
-    }
-    let places = places::tables::places_of(blocks, n);
-    let entries = places.entry;
-    let exits = places.exit;
-    let begins = places.begin;
-    let ends = places.end;
-    if !super::stepping::machine_fits(m, blocks, n, &entries, &exits, &begins, &ends) {
-        return refused(17, 0);
-    }
-    rows_of(m, blocks, n, &entries, &exits, &begins, &ends)
-}
+ghost use lib.ListN.{replicate};
+ghost use Rattle.rules.specs.List.{zeroRow, list as List·list};
+ghost use Rattle.table.specs.Listed.{shown};
 
 // Any image and any words: always an answer.
-pub fn ready(image: &[u8], words: &[u32]) -> Readiness
+pub fn ready(image: &[u8], words: &[u32]) -> Listing
     ensures { λ r. ⌜ shown r ≡ List·list (now (image .entry)) (now (words .entry)) (replicate 64 zeroRow) ⌝ }
 {
     let d = decode::decode(image);
     let code = d.code;
     if code != 0 {
-        return refused(code, d.place);
+        return table::refused(code, d.place);
     }
     let blocks = d.blocks;
     let n = d.count;
     match judge::judge_blocks(blocks, n) {
-        Judgement::Refused(code, place) => refused(code, place),
-        Judgement::Accepted(_, _) => ready_on(words, blocks, n),
+        Judgement::Refused(code, place) => table::refused(code, place),
+        Judgement::Accepted(_, _) => accepted::readiness::ready_on(words, blocks, n),
     }
 }

@@ -14,7 +14,8 @@ use Rattle.rules.specs.Base.{pick, some-of, each-of, those}
 use Rattle.rules.specs.Machine.{Process, Kept, place, child, isChildOf, children}
 use Rattle.rules.specs.Fits.{ascending}
 use Rattle.rules.specs.Step.{moveRow, insertRows, removeRows, closeUp}
-use Rattle.laws.proofs.Lists.{true-false, and-both, both-and, those-append, those-all, those-none}
+use Rattle.laws.proofs.Lists.{those-append, those-all, those-none}
+use Rattle.laws.proofs.Tests.{true-false, and-true, true-and}
 use Rattle.laws.proofs.Ascending.{AllAbove, ascending-head, ascending-tail, none-above, move-at, close-at}
 use Rattle.machine.specs.Index.{rowAt}
 
@@ -25,16 +26,16 @@ module _ {A : Type 0} where
   each-at : (t : A → Bool) (l : List A) (i : ℕ) (d : A) → each-of t l ≡ true → i < length l → t (getD l i d) ≡ true
   unfolding each-of
   each-at t [] i d h k = absurd (not-suc-le-zero k)
-  each-at t (a ∷ l) zero d h k = and-both (t a) (each-of t l) h .0
-  each-at t (a ∷ l) (suc i) d h k = each-at t l i d (and-both (t a) (each-of t l) h .1) (le-of-suc-le-suc k)
+  each-at t (a ∷ l) zero d h k = and-true (t a) (each-of t l) h .0
+  each-at t (a ∷ l) (suc i) d h k = each-at t l i d (and-true (t a) (each-of t l) h .1) (le-of-suc-le-suc k)
 
   -- a test that follows from another
   each-from : (t u : A → Bool) → ((a : A) → t a ≡ true → u a ≡ true) → (l : List A) → each-of t l ≡ true → each-of u l ≡ true
   unfolding each-of
   each-from t u g [] h = refl
   each-from t u g (a ∷ l) h =
-      let e = and-both (t a) (each-of t l) h in
-      both-and (g a (e .0)) (each-from t u g l (e .1))
+      let e = and-true (t a) (each-of t l) h in
+      true-and _ _ (g a (e .0)) (each-from t u g l (e .1))
 
   -- those that pass stand first, or last
   those-first : (t : A → Bool) (l : List A) (i : ℕ) → each-of t (take i l) ≡ true → each-of (λ a. not (t a)) (drop i l) ≡ true → those t l ≡ take i l
@@ -83,10 +84,10 @@ parted [] c zero a lo hi l = record { below = refl; above = refl }
 parted [] c (suc i) a lo hi l = absurd (not-suc-le-zero l)
 parted (r ∷ rows) c zero a lo hi l =
     let g : c ≤ r .identifier = hi (omega arith) in
-    record { below = refl; above = both-and (le-leb c (r .identifier) g) (all-from c (r .identifier) rows g (ascending-head r rows a)) }
+    record { below = refl; above = true-and _ _ (le-leb c (r .identifier) g) (all-from c (r .identifier) rows g (ascending-head r rows a)) }
 parted (r ∷ rows) c (suc i) a lo hi l =
     let ih = parted rows c i (ascending-tail r rows a) (λ j k. lo (suc j) (omega arith)) (λ k. hi (omega arith)) (le-of-suc-le-suc l) in
-    record { below = both-and (lt-ltb (r .identifier) c (lo zero (omega arith))) (ih .below); above = ih .above }
+    record { below = true-and _ _ (lt-ltb (r .identifier) c (lo zero (omega arith))) (ih .below); above = ih .above }
 
 pub inserted-by :
     (rows : List Process) (p i : ℕ) (new : List Process) → Parted rows (child p 1) i
@@ -121,7 +122,7 @@ closed-by history p i h e n =
 -- ---- rows taken out
 nonzero-child : (p q : ℕ) → 16 * p + 1 ≤ q → q < 16 * p + 16 → isChildOf p q ≡ true
 nonzero-child p q h k =
-    both-and (ap not (ne-eqb q 0 (λ e. omega arith))) (eq-eqb (q / 16) p (omega arith))
+    true-and _ _ (ap not (ne-eqb q 0 (λ e. omega arith))) (eq-eqb (q / 16) p (omega arith))
 
 past-children : (p q : ℕ) → 16 * p + 16 ≤ q → not (isChildOf p q) ≡ true
 past-children p q h = rw (ne-eqb (q / 16) p (λ e. omega arith)) (both (not (eqb q 0)))
@@ -158,7 +159,7 @@ children-first :
 unfolding those pick each-of
 children-first p [] a h = refl
 children-first p (r ∷ rows) a h =
-    let e = and-both (leb (child p 1) (r .identifier)) (each-of (λ x. leb (child p 1) (x .identifier)) rows) h in
+    let e = and-true (leb (child p 1) (r .identifier)) (each-of (λ x. leb (child p 1) (x .identifier)) rows) h in
     go (isChildOf p (r .identifier)) refl (leb-true _ _ (e .0)) (children-first p rows (ascending-tail r rows a) (e .1))
   where
     go : (b : Bool) → isChildOf p (r .identifier) ≡ b → 16 * p + 1 ≤ r .identifier → Others p rows ≡ drop (length (Mine p rows)) rows

@@ -8,11 +8,12 @@ use lib.ListN.{length, take, drop, getD, take-append-drop, length-drop}
 use lib.Dec.{eqb, ltb, leb}
 use borrow.Author.Tests.{ltb-true, leb-true, ne-eqb}
 use Rattle.rules.specs.Base.{pick, each-of, those}
-use Rattle.rules.specs.Machine.{Process, child, isChildOf, children, liveCount, historyCount, view}
-use Rattle.rules.specs.Fits.{ascending, countsFit}
-use Rattle.laws.proofs.Lists.{and-both, both-and, those-append, those-none}
-use Rattle.laws.proofs.View.{noRow, rowAt, row-at, length-rows, rows-from, rows-end}
-use Rattle.step.specs.Ready.{FirstFrom, Ready}
+use Rattle.rules.specs.Machine.{Process, child, isChildOf, children, liveCount, view}
+use Rattle.rules.specs.Fits.{ascending}
+use Rattle.laws.proofs.Lists.{those-append, those-none}
+use Rattle.laws.proofs.Tests.{and-true, true-and}
+use Rattle.laws.proofs.View.{noRow, row-at, length-rows}
+use Rattle.step.specs.Ready.{FirstFrom}
 use Rattle.step.proofs.ByIdentifier.{Parted, parted}
 
 -- every row is the root or is numbered from 1
@@ -65,9 +66,9 @@ unfolding each-of
 none-before p rows zero n b = refl
 none-before p [] (suc i) n b = refl
 none-before p (r ∷ rows) (suc i) n b =
-    let s = and-both (eqb (r .identifier) 0 || leb 1 (r .identifier % 16)) _ n in
-    let t = and-both (ltb (r .identifier) (child p 1)) _ b in
-    both-and (no-child p (r .identifier) (ltb-true _ _ (t .0)) (s .0)) (none-before p rows i (s .1) (t .1))
+    let s = and-true (eqb (r .identifier) 0 || leb 1 (r .identifier % 16)) _ n in
+    let t = and-true (ltb (r .identifier) (child p 1)) _ b in
+    true-and _ _ (no-child p (r .identifier) (ltb-true _ _ (t .0)) (s .0)) (none-before p rows i (s .1) (t .1))
 
 -- as many as pass are no more than there are
 those-few : {A : Type 0} (t : A → Bool) (l : List A) → length (those t l) ≤ length l
@@ -92,57 +93,3 @@ children-within p rows i k h =
     let d = length-drop i rows in
     let z = ap length e in
     omega (arith, f, d, z)
-
--- ---- counted and looked at row by row
-pub one-at-most : (b : Bool) → pick b 1 0 ≤ 1
-unfolding pick
-one-at-most true = omega arith
-one-at-most false = omega arith
-
-pub count-more : (w : List ℕ) (p i : ℕ) → i < liveCount w
-    → length (children (drop i (view w .rows)) p) ≡ pick (isChildOf p (getD w (290 + 3 * i) 0)) 1 0 + length (children (drop (i + 1) (view w .rows)) p)
-unfolding children those pick
-count-more w p i h =
-    let n : i + 1 ≡ suc i = omega arith in
-    rw (rows-from w i h, n) (go (isChildOf p (getD w (290 + 3 * i) 0)))
-  where
-    rest : List Process
-    rest = those (λ r. isChildOf p (r .identifier)) (drop (suc i) (view w .rows))
-
-    go : (b : Bool) → length (pick b (rowAt w i ∷ rest) rest) ≡ pick b 1 0 + length rest
-    go true = omega arith
-    go false = omega arith
-
-pub count-end : (w : List ℕ) (p i : ℕ) → i ≡ liveCount w → length (children (drop i (view w .rows)) p) ≡ 0
-unfolding children those
-count-end w p i e =
-    let q : drop i (view w .rows) ≡ [] = ap (λ (k : ℕ). drop k (view w .rows)) e ∙ rows-end w in
-    rw q
-
-pub children-each : (t : Process → Bool) (p : ℕ) (rows : List Process)
-    → each-of t (children rows p) ≡ each-of (λ r. not (isChildOf p (r .identifier)) || t r) rows
-unfolding children those each-of pick
-children-each t p [] = refl
-children-each t p (r ∷ rows) = go (isChildOf p (r .identifier)) (children-each t p rows)
-  where
-    rest : List Process
-    rest = those (λ x. isChildOf p (x .identifier)) rows
-
-    go : (b : Bool) → each-of t rest ≡ each-of (λ x. not (isChildOf p (x .identifier)) || t x) rows
-        → each-of t (pick b (r ∷ rest) rest) ≡ ((not b || t r) && each-of (λ x. not (isChildOf p (x .identifier)) || t x) rows)
-    go true ih = ap (λ (k : Bool). t r && k) ih
-    go false ih = ih
-
--- ---- what a ready row keeps to
-pub live-64 : (w : List ℕ) (row : ℕ) → Ready w row → liveCount w ≤ 64
-unfolding countsFit
-live-64 w row r = leb-true _ _ (and-both (leb (liveCount w) 64) (leb (historyCount w) 4096) (r .lent .counts) .0)
-
-pub row-64 : (w : List ℕ) (row : ℕ) → Ready w row → row < 64
-row-64 w row r = omega (arith, live-64 w row r, r .live)
-
-pub rows-ready : (w : List ℕ) (row : ℕ) → Ready w row → (length w ≡ 8674) × (liveCount w ≤ 64)
-rows-ready w row r = (r .lent .long, live-64 w row r)
-
-pub row-ready : (w : List ℕ) (row : ℕ) → Ready w row → (length w ≡ 8674) × (row < 64)
-row-ready w row r = (r .lent .long, row-64 w row r)

@@ -1,10 +1,8 @@
-pub mod Holds
+-- Laws that other crates cite.
+pub mod Calling
 pub mod Named
+pub mod Standing
 pub mod ByIdentifier
 pub mod Steps
 pub mod First
-pub mod Ways
 pub mod Making
-pub mod Freeing
-pub mod Calling
-pub mod Looking

@@ -26,7 +26,7 @@ use Rattle.step.specs.Planned.{identifierAt, planned}
 use Rattle.step.specs.Ready.{processAt, Ready, Plans, FirstFrom}
 use Rattle.step.specs.History.{NewestAt}
 use Rattle.step.specs.declared.plan.Plan.{Plan}
-use Rattle.step.proofs.Holds.{live-identifier}
+use Rattle.step.proofs.Standing.{live-identifier}
 use Rattle.step.proofs.Named.{named-count}
 use Rattle.step.proofs.ByIdentifier.{Parted}
 use Rattle.step.proofs.First.{first-parted, none-before, children-within}

@@ -17,7 +17,7 @@ use Rattle.rules.specs.declared.Names.{Names}
 use Rattle.rules.specs.declared.Place.{Place}
 use Rattle.evaluate.specs.Shown.{written}
 use Rattle.evaluate.specs.declared.Writes.{Writes}
-use Rattle.laws.proofs.Lists.{true-false}
+use Rattle.laws.proofs.Tests.{true-false}
 use Rattle.machine.specs.Index.{kept, without, rowAt, moved, inserted, removed}
 use Rattle.step.specs.Planned.{writtenIn, identifierAt, planned, leafMade, forkMade, mergeMade, undoLeafMade, undoForkMade, undoMergeMade}
 use Rattle.step.specs.History.{NewestAt}

@@ -13,7 +13,7 @@ use Rattle.rules.specs.declared.Names.{Names}
 use Rattle.rules.specs.declared.Place.{Place}
 use Rattle.evaluate.specs.Shown.{written, WritesFit}
 use Rattle.evaluate.specs.declared.Writes.{Writes}
-use Rattle.machine.specs.Edit.{writtenWords}
+use Rattle.change.specs.Words.{writtenWords}
 use Rattle.machine.specs.Index.{kept, without, moved, inserted, removed}
 use Rattle.step.specs.declared.plan.Plan.{Plan}
 

@@ -7,11 +7,13 @@ use mathlib.Core.Bool.{false}
 use mathlib.Core.List.{List, [], _∷_, _++_, append-nil}
 use lib.ListN.{length, getD, set, drop, length-set, drop-of-length-le}
 use lib.Dec.{eqb}
-use borrow.Author.Tests.{eqb-false}
+use borrow.Author.Tests.{eq-eqb}
 use Rattle.rules.specs.List.{zeroRow}
 use Rattle.rules.specs.declared.Row.{Row}
-use Rattle.table.specs.Listed.{listCode, listed, rowFor, listRows}
-use Rattle.table.proofs.Listed.{accepted, refused-keeps}
+use Rattle.rules.specs.Base.{pick}
+use Rattle.table.specs.Listed.{shown, written}
+use Rattle.table.specs.declared.Listing.{Listing}
+use Rattle.table.proofs.Rows.{length-rowsIn}
 
 -- n rows, from row k on
 abbrev rowsFrom : (ℕ → Row) → ℕ → ℕ → List Row
@@ -23,8 +25,12 @@ abbrev filledBy : List Row → (ℕ → Row) → ℕ → List Row
 filledBy ys f zero = ys
 filledBy ys f (suc k) = set (filledBy ys f k) k (f k)
 
-abbrev pub filled : List Row → List ℕ → List ℕ → ℕ → List Row
-filled ys im ma k = filledBy ys (rowFor im ma) k
+-- row k of a listing
+abbrev pub rowIn : Listing → ℕ → Row
+rowIn r k = getD (shown r .leaves) k zeroRow
+
+abbrev pub filled : List Row → Listing → ℕ → List Row
+filled ys r k = filledBy ys (rowIn r) k
 
 module _ (f : ℕ → Row) where
   length-by : (ys : List Row) (k : ℕ) → length (filledBy ys f k) ≡ length ys
@@ -72,23 +78,21 @@ taken-up (r ∷ l) g k h =
     ap (λ (x : Row). x ∷ rowsFrom g (suc k) (length l)) (ap g z ∙ h 0 (omega arith))
     ∙ ap (λ (x : List Row). r ∷ x) (taken-up l g (suc k) (λ j i. let e : suc k + j ≡ k + suc j = omega arith in ap g e ∙ h (suc j) (omega arith)))
 
-pub length-filled : (ys : List Row) (im ma : List ℕ) (k : ℕ) → length (filled ys im ma k) ≡ length ys
-length-filled ys im ma k = length-by (rowFor im ma) ys k
+module _ (ys : List Row) (r : Listing) where
+  pub length-filled : (k : ℕ) → length (filled ys r k) ≡ length ys
+  length-filled k = length-by (rowIn r) ys k
 
--- what the code 0 says
-pub sixty-four : (im ma : List ℕ) (ys : List Row) → listCode im ma (length ys) ≡ 0 → length ys ≡ 64
-sixty-four im ma ys h = accepted ma ys im h .many
+  -- the two cases of the rows after a call
+  pub rows-kept : eqb (r .code) 0 ≡ false → record { answer = shown r .answer; leaves = ys } ≡ written (shown r) ys
+  unfolding written pick
+  rows-kept e = rw e
 
--- the two cases of the rows after a call
-pub rows-kept : (im ma : List ℕ) (ys : List Row) → eqb (listCode im ma (length ys)) 0 ≡ false → ys ≡ listRows im ma ys
-unfolding listRows
-rows-kept im ma ys e = refused-keeps ma ys im (eqb-false (listCode im ma (length ys)) 0 e)
-
-pub rows-all : (im ma : List ℕ) (ys : List Row) (k : ℕ) → listCode im ma (length ys) ≡ 0 → k ≡ 64 → filled ys im ma k ≡ listRows im ma ys
-unfolding listRows
-rows-all im ma ys k h e =
-    let o = accepted ma ys im h in
-    all-by (rowFor im ma) ys k (o .many ∙ sym e)
-    ∙ ap (rowsFrom (rowFor im ma) 0) (e ∙ sym (o .long))
-    ∙ taken-up (listed im ma) (rowFor im ma) 0 (λ j i. let z : 0 + j ≡ j = omega arith in ap (λ (x : ℕ). getD (listed im ma) x zeroRow) z)
-    ∙ sym (o .leaves)
+  pub rows-all : (k : ℕ) → r .code ≡ 0 → length ys ≡ 64 → k ≡ 64 → record { answer = shown r .answer; leaves = filled ys r k } ≡ written (shown r) ys
+  unfolding written pick
+  rows-all k c l e =
+      let n : length (shown r .leaves) ≡ 64 = length-rowsIn (r .identifiers) (r .forwards) (r .undos) 64 0 in
+      let all : filled ys r k ≡ shown r .leaves =
+      all-by (rowIn r) ys k (l ∙ sym e)
+      ∙ ap (rowsFrom (rowIn r) 0) (e ∙ sym n)
+      ∙ taken-up (shown r .leaves) (rowIn r) 0 (λ j i. let z : 0 + j ≡ j = omega arith in ap (rowIn r) z) in
+      rw (eq-eqb (r .code) 0 c) (ap (λ (t : List Row). record { answer = shown r .answer; leaves = t }) all)

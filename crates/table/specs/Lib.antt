@@ -1,2 +1,2 @@
--- Definitions that the contracts of the list's parts cite.
+-- Definitions that the contracts of the list cite.
 pub mod Listed

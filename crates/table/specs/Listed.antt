@@ -1,25 +1,24 @@
--- The answer of a list by the number of lent rows, and its rows one by one.
-use Prim.Native.Nat.{ℕ}
-use mathlib.Core.List.{List}
-use lib.ListN.{getD, replicate}
-use Rattle.rules.specs.List.{zeroRow, listBytes}
-use Rattle.rules.specs.declared.Answer.{Answer}
+-- A listing as rules has it: the answer and the rows of the list.
+use Prim.Native.Nat.{ℕ, zero, suc}
+use mathlib.Core.List.{List, [], _∷_}
+use lib.ListN.{getD}
+use lib.Dec.{eqb}
+use Rattle.rules.specs.Base.{pick}
+use Rattle.rules.specs.Words.{Outcome}
 use Rattle.rules.specs.declared.Row.{Row}
+use Rattle.table.specs.declared.Listing.{Listing}
 
--- the answer is the same whatever the n rows hold
-unfoldable pub listAnswer : List ℕ → List ℕ → ℕ → Answer
-listAnswer image machine n = listBytes image machine (replicate n zeroRow) .answer
+-- n rows from i on, each of the three numbers at its place
+unfoldable pub rowsIn : List ℕ → List ℕ → List ℕ → ℕ → ℕ → List Row
+rowsIn identifiers forwards undos zero i = []
+rowsIn identifiers forwards undos (suc n) i =
+    record { identifier = getD identifiers i 0; forward = getD forwards i 0; undo = getD undos i 0 }
+    ∷ rowsIn identifiers forwards undos n (suc i)
 
--- the rows that an accepted list leaves, whatever the 64 rows held
-unfoldable pub listed : List ℕ → List ℕ → List Row
-listed image machine = listBytes image machine (replicate 64 zeroRow) .leaves
+abbrev pub shown : Listing → Outcome (List Row)
+shown r =
+    record { answer = record { code = r .code; place = r .place }; leaves = rowsIn (r .identifiers) (r .forwards) (r .undos) 64 0 }
 
-abbrev pub rowFor : List ℕ → List ℕ → ℕ → Row
-rowFor image machine k = getD (listed image machine) k zeroRow
-
--- the code of the answer, and the rows that a call leaves
-abbrev pub listCode : List ℕ → List ℕ → ℕ → ℕ
-listCode image machine n = listAnswer image machine n .code
-
-unfoldable pub listRows : List ℕ → List ℕ → List Row → List Row
-listRows image machine rows = listBytes image machine rows .leaves
+-- what a list leaves in lent rows: its own rows where its code is 0, else those that were there
+unfoldable pub written : Outcome (List Row) → List Row → Outcome (List Row)
+written o lent = record { answer = o .answer; leaves = pick (eqb (o .answer .code) 0) (o .leaves) lent }

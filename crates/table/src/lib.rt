@@ -1,96 +1,63 @@
-// The list's covered parts, document 01, "The list": the answer of a call, and row k, each by value. The C boundary writes the lent
-// rows from them.
+// The list by value, document 01, "The list": its answer, and one row a live process. The C boundary writes the lent rows from it.
 ghost use mathlib.Core.Path.{_≡_};
-ghost use mathlib.Core.List.{List};
 ghost use Prim.Native.Nat.{_<_};
-ghost use lib.ListN.{length};
-ghost use Rattle.rules.specs.Machine.{liveCount};
-ghost use Rattle.rules.specs.Words.{refuse, onImage, wordsOf};
+ghost use lib.ListN.{getD, replicate};
+ghost use Rattle.rules.specs.Words.{refuse, accept};
 ghost use Rattle.rules.specs.List.{zeroRow};
-ghost use Rattle.rules.specs.declared.Row as Rules;
-ghost use Rattle.table.specs.Listed.{listAnswer, listCode, rowFor};
+ghost use Rattle.table.specs.Listed.{rowsIn, shown};
 use rules::Answer;
-use rules::Judgement;
 use rules::Row;
 
-// The bytes of a machine, and the rows of a list.
-const MACHINE_BYTES: usize = 34696;
+// The answer, and where its code is 0 one number a live process in each array, the rest 0.
+pub struct Listing {
+    pub code: u32,
+    pub place: u32,
+    pub identifiers: [u32; 64],
+    pub forwards: [u32; 64],
+    pub undos: [u32; 64],
+}
 
-const ROWS: usize = 64;
-
-// 16, after the codes of judging.
-fn wrong_length(image: &[u8]) -> Answer
-    ensures { λ r. ⌜ ((lent : List Rules.Row) → r ≡ onImage (now (image .entry)) lent (λ program. refuse 16 0 lent) .answer) ⌝ }
+pub fn refused(code: u32, place: u32) -> Listing
+    ensures { λ r. ⌜ shown r ≡ refuse code place (replicate 64 zeroRow) ⌝ }
 {
-    match judge::judge(image) {
-        Judgement::Refused(code, place) => Answer { code, place },
-        Judgement::Accepted(_, _) => Answer { code: 16, place: 0 },
+    Listing {
+        code,
+        place,
+        identifiers: [0u32; 64],
+        forwards: [0u32; 64],
+        undos: [0u32; 64],
     }
 }
 
-// The answer of a list into n rows.
-pub fn list_answer(image: &[u8], machine: &[u8], n: usize) -> Answer
-    ensures { λ r. ⌜ r ≡ listAnswer (now (image .entry)) (now (machine .entry)) n ⌝ }
+pub fn accepted(identifiers: [u32; 64], forwards: [u32; 64], undos: [u32; 64]) -> Listing
+    ensures { λ r. ⌜ shown r ≡ accept (rowsIn identifiers forwards undos 64 0) ⌝ }
 {
-    if n != ROWS {
-        return wrong_length(image);
+    Listing {
+        code: 0,
+        place: 0,
+        identifiers,
+        forwards,
+        undos,
     }
-    if machine.len() != MACHINE_BYTES {
-        return wrong_length(image);
-    }
-    let mut words = [0u32; 8674];
-    bytes::words_of(machine, &mut words);
-    let r = runtime::readiness::ready(image, &words);
+}
+
+pub fn answer_of(listing: Listing) -> Answer
+    ensures { λ r. ⌜ r ≡ shown listing .answer ⌝ }
+{
     Answer {
-        code: r.code,
-        place: r.place,
+        code: listing.code,
+        place: listing.place,
     }
 }
 
-// Its code.
-pub fn list_code(image: &[u8], machine: &[u8], n: usize) -> u32
-    ensures { λ r. ⌜ r ≡ listCode (now (image .entry)) (now (machine .entry)) n ⌝ }
-{
-    let answer = list_answer(image, machine, n);
-    answer.code
-}
-
-// How many processes are live.
-fn live_count(machine: &[u8]) -> usize
-    requires { ⌜ length (now machine) ≡ 34696 ⌝ }
-    ensures { λ r. ⌜ r ≡ liveCount (wordsOf (now (machine .entry))) ⌝ }
-{
-    laws::wide(bytes::word_at(machine, 0))
-}
-
-// The row of no process.
-fn no_row() -> Row
-    ensures { λ r. ⌜ r ≡ zeroRow ⌝ }
-{
-    Row {
-        identifier: 0,
-        forward: 0,
-        undo: 0,
-    }
-}
-
-// Row k of an accepted list; a row of zeros where the list is refused.
-pub fn row_for(image: &[u8], machine: &[u8], k: usize) -> Row
+// Row k.
+pub fn row_of(listing: Listing, k: usize) -> Row
     requires { ⌜ k < 64 ⌝ }
-    ensures { λ r. ⌜ r ≡ rowFor (now (image .entry)) (now (machine .entry)) k ⌝ }
+    ensures { λ r. ⌜ r ≡ getD (shown listing .leaves) k zeroRow ⌝ }
 {
-    if machine.len() != MACHINE_BYTES {
-        return no_row();
-    }
-    if live_count(machine) <= k {
-        return no_row();
-    }
-    let mut words = [0u32; 8674];
-    bytes::words_of(machine, &mut words);
-    let r = runtime::readiness::ready(image, &words);
-    let identifiers = r.identifiers;
-    let forwards = r.forwards;
-    let undos = r.undos;
+    let identifiers = listing.identifiers;
+    let forwards = listing.forwards;
+    let undos = listing.undos;
     Row {
         identifier: identifiers[k],
         forward: forwards[k],

@@ -11,7 +11,7 @@ use Rattle.rules.specs.Calls.{callingOf, bad13, bad14, bad15, peak}
 use Rattle.rules.specs.Judge.{atLowest, judgedBlocks}
 use Rattle.rules.specs.declared.Block.{Block}
 use Rattle.rules.specs.declared.Judgement.{Judgement}
-use Rattle.theorems.specs.Lists.{lowest-none}
+use Rattle.laws.proofs.Search.{lowest-none}
 
 abbrev IsAccepted : Judgement → Type 0
 IsAccepted (Judgement.Refused code place) = ⊥

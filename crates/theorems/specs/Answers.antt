@@ -24,7 +24,7 @@ use Rattle.rules.specs.Step.{forward, undo}
 use Rattle.rules.specs.Words.{Outcome, step, stepAt, stepOf, finished, refuse, accept}
 use Rattle.rules.specs.declared.Place.{Place}
 use Rattle.laws.proofs.Pack.{view-pack}
-use Rattle.theorems.specs.Lists.{pick-true, pick-false}
+use Rattle.laws.proofs.Lists.{pick-true, pick-false}
 use Rattle.theorems.specs.Program.{real}
 use Rattle.theorems.specs.Tables.{same-rows, standing-each}
 use Rattle.theorems.specs.Forward.{Configuration, configurationOf, entryOf, ahead}

@@ -30,7 +30,7 @@ use Rattle.rules.specs.Step
 use Rattle.rules.specs.declared.Entry.{Entry}
 use Rattle.rules.specs.declared.Block.{Block}
 use Rattle.rules.specs.declared.Place.{Place}
-use Rattle.theorems.specs.Lists.{pick-true, pick-false}
+use Rattle.laws.proofs.Lists.{pick-true, pick-false}
 use Rattle.laws.specs.Fit.{IsFrom}
 use Rattle.theorems.specs.Evaluate.{made-inj, made-pick, after-made, made-after}
 use Rattle.theorems.specs.Parts.{unleafOf, exitAt, calls, outOf, intoOf, Standing, fromLabel}

@@ -19,7 +19,7 @@ use Rattle.rules.specs.Machine.{Process, place, root, child, parent, isChildOf,
 use Rattle.rules.specs.Fits.{nth}
 use Rattle.rules.specs.Step.{childRows, insertRows, removeRows}
 use Rattle.rules.specs.declared.Place.{Place}
-use Rattle.theorems.specs.Lists.{pick-true, pick-false}
+use Rattle.laws.proofs.Lists.{pick-true, pick-false}
 use Rattle.theorems.specs.Tables.{Above, Sorted, Below, standing-here, standing-past, standing-none, those-sorted, those-standing, first-of, append-standing, append-sorted, below-append, below-more, those-below, those-from}
 
 -- every row hangs from the root

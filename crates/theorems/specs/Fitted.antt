@@ -27,7 +27,7 @@ use Rattle.rules.specs.Machine.{Process, Machine, begin, root, child, parent, p
 use Rattle.rules.specs.Fits.{entryBlock, exitBlock, calledAt, ascending, standsIn, standsInSome, rootIn, rootFits, parentFits, nth, childLabel, ownLabel, ownFits, childrenFit, newestFits, rowFits, machineFits}
 use Rattle.rules.specs.declared.Block.{Block}
 use Rattle.rules.specs.declared.Place.{Place}
-use Rattle.theorems.specs.Lists.{pick-true, pick-false}
+use Rattle.laws.proofs.Lists.{pick-true, pick-false}
 use Rattle.theorems.specs.Parts.{calls, outOf, labelOf, homeOf, Standing}
 use Rattle.theorems.specs.Program.{Sound, real, home-outer, call-one, begin-standing, main-standing}
 use Rattle.theorems.specs.Levels.{depthIn, depth-call, main-depth}

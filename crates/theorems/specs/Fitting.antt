@@ -28,7 +28,7 @@ use Rattle.rules.specs.Machine.{Process, Kept, Machine, begin, end, root, child
 use Rattle.rules.specs.Fits.{entryBlock, exitBlock, calledAt, ascending, standsIn, standsInSome, rootIn, rootFits, isLive, parentFits, nth, childLabel, ownLabel, ownFits, childrenFit, newest, orElse, isBlock, newestFits, rowFits, keptFits, machineFits}
 use Rattle.rules.specs.declared.Block.{Block}
 use Rattle.rules.specs.declared.Place.{Place}
-use Rattle.theorems.specs.Lists.{pick-true, pick-false}
+use Rattle.laws.proofs.Lists.{pick-true, pick-false}
 use Rattle.theorems.specs.Memory.{Fine}
 use Rattle.theorems.specs.Parts.{calls, outOf, labelOf, homeOf, Standing}
 use Rattle.theorems.specs.Program.{Sound, real, exit-some, some-exit, home-outer, home-run}

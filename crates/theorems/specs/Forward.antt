@@ -28,7 +28,7 @@ use Rattle.rules.specs.declared.Instruction.{Instruction}
 use Rattle.rules.specs.declared.Exit.{Exit}
 use Rattle.rules.specs.declared.Block.{Block}
 use Rattle.rules.specs.declared.Place.{Place}
-use Rattle.theorems.specs.Lists.{pick-true, pick-false}
+use Rattle.laws.proofs.Lists.{pick-true, pick-false}
 use Rattle.laws.specs.Fit.{IsTo, InstructionFit}
 use Rattle.theorems.specs.Evaluate.{made-inj, made-pick, after-made}
 use Rattle.theorems.specs.Parts.{calls, outOf, readsOf, writesOf, Standing, toLabel}

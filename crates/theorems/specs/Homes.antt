@@ -14,7 +14,8 @@ use Rattle.rules.specs.Base.{pick, times, upFrom}
 use Rattle.rules.specs.Format.{mostBlocks, labels}
 use Rattle.rules.specs.Labels.{blockOf, beginLabels, endLabels, labelNode, ordinaryLabels, renamed, joinNodes, joinLabels, groupsFrom, groups, within, ownBegins, ownEnds, oneLabel, bad11, home}
 use Rattle.rules.specs.declared.Block.{Block}
-use Rattle.theorems.specs.Lists.{pick-true, pick-false, times-append, times-one, times-other}
+use Rattle.laws.proofs.Lists.{pick-true, pick-false}
+use Rattle.laws.proofs.Times.{times-append, times-one, times-other}
 use Rattle.theorems.specs.Accepted.{Passed}
 
 -- ---- joining

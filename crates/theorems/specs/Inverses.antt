@@ -23,7 +23,7 @@ use Rattle.rules.specs.declared.Expression.{Expression}
 use Rattle.rules.specs.declared.Change.{Change}
 use Rattle.rules.specs.declared.Instruction.{Instruction}
 use Rattle.laws.proofs.Words.{changed-back}
-use Rattle.theorems.specs.Lists.{pick-true}
+use Rattle.laws.proofs.Lists.{pick-true}
 use Rattle.theorems.specs.Memory.{look, set-variable, set-cell, Fine}
 use Rattle.laws.specs.Fit.{TargetFit, InstructionFit}
 use Rattle.theorems.specs.Evaluate.{made-inj, pick-made, made-pick, after-made, made-after, cell-made, expression-alike, expression-word}

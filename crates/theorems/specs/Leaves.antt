@@ -20,7 +20,7 @@ use Rattle.rules.specs.declared.Exit.{Exit}
 use Rattle.rules.specs.declared.Block.{Block}
 use Rattle.rules.specs.declared.Place.{Place}
 use Rattle.theorems.specs.Graphs.{instruction-reads}
-use Rattle.theorems.specs.Lists.{pick-true}
+use Rattle.laws.proofs.Lists.{pick-true}
 use Rattle.theorems.specs.Memory.{look, Fine}
 use Rattle.laws.specs.Fit.{InstructionFit, BlockFit}
 use Rattle.theorems.specs.Evaluate.{made-inj, pick-made, after-made, made-after, Agree, entry-alike, exit-alike}

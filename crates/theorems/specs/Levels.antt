@@ -20,7 +20,7 @@ use Rattle.rules.specs.Calls.{Calling, callingOf, homeAt, callsAt, sumOf, deepe
 use Rattle.rules.specs.Fits.{nth}
 use Rattle.rules.specs.declared.Block.{Block}
 use Rattle.laws.proofs.PeakRight.{peak-right, PeakRight}
-use Rattle.theorems.specs.Lists.{pick-true}
+use Rattle.laws.proofs.Lists.{pick-true}
 use Rattle.theorems.specs.Parts.{calls, outOf, homeOf, labelOf}
 use Rattle.theorems.specs.Program.{Sound, call-in-image, call-home}
 

@@ -1,4 +1,3 @@
-pub mod Lists
 pub mod Graphs
 pub mod Held
 pub mod Accepted

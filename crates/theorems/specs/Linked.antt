@@ -21,7 +21,7 @@ use Rattle.rules.specs.declared.Block.{Block}
 use Rattle.rules.specs.declared.Place.{Place}
 use Rattle.laws.proofs.Decoded.{fit, few}
 use Rattle.laws.proofs.Pack.{Sized, length-pack, view-pack}
-use Rattle.theorems.specs.Lists.{pick-true, pick-false, each-at}
+use Rattle.laws.proofs.Lists.{pick-true, pick-false, each-at}
 use Rattle.theorems.specs.Accepted.{passed}
 use Rattle.theorems.specs.Memory.{Fine}
 use Rattle.theorems.specs.Program.{Sound}
@@ -35,7 +35,7 @@ pub each-below : (l : List ℕ) (n : ℕ) → 0 < n → each-of (λ v. ltb v n) 
 each-below l n pos h i = go (bool-cases (ltb i (length l)))
   where
     go : (ltb i (length l) ≡ true) ⊎ (ltb i (length l) ≡ false) → getD l i 0 < n
-    go (inl k) = ltb-true (getD l i 0) n (each-at (λ v. ltb v n) l 0 i h (ltb-true i (length l) k))
+    go (inl k) = ltb-true (getD l i 0) n (each-at (λ v. ltb v n) 0 l h i (ltb-true i (length l) k))
     go (inr k) = let z : getD l i 0 ≡ 0 = List·getD-eq-default l 0 (ltb-false i (length l) k) in omega (arith, z, pos)
 
 module _ (s : Subject) where

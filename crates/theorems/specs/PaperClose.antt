@@ -25,7 +25,7 @@ use Rattle.rules.specs.Annotation.{Annotation, nodeAt, Whole, Last, unwritten, 
 use Rattle.rules.specs.Step.{closeUp}
 use Rattle.rules.specs.declared.Block.{Block}
 use Rattle.laws.proofs.Ascending.{close-at}
-use Rattle.theorems.specs.Lists.{pick-true, pick-false}
+use Rattle.laws.proofs.Lists.{pick-true, pick-false}
 use Rattle.theorems.specs.Graphs.{feetOf, shows-none, node-listed, listed-node, edge-listed, listed-edge}
 use Rattle.theorems.specs.Held.{NoneOf, held, held-none, apart-all, mem-each, those-mem, unread, same-source, source-same}
 use Rattle.theorems.specs.Program.{Sound}

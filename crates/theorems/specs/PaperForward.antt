@@ -27,7 +27,7 @@ use Rattle.rules.specs.Paper
 use Rattle.rules.specs.Annotation.{Annotation, Annotated, Extends, annotationOf}
 use Rattle.rules.specs.declared.Block.{Block}
 use Rattle.rules.specs.declared.Place.{Place}
-use Rattle.theorems.specs.Lists.{pick-true, pick-false}
+use Rattle.laws.proofs.Lists.{pick-true, pick-false}
 use Rattle.theorems.specs.Evaluate.{made-after}
 use Rattle.theorems.specs.Parts.{entryAt, leafOf, calls, outOf}
 use Rattle.theorems.specs.Program.{Sound, real, leaf-made, entry-some, call-in-image}

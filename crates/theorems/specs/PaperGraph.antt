@@ -16,7 +16,7 @@ use Rattle.rules.specs.Machine.{Kept}
 use Rattle.rules.specs.Cause.{reads, writes, Node, Source, startMark, node, Edge, entriesOf, nodeOf, lastFrom, lastWriter, edgeOf, edgesOf, nodesFrom, edgesFrom, nodes, edges}
 use Rattle.rules.specs.Annotation.{Annotation, anyEdge, nodeAt, Whole, Last, unwritten, written, Extends, annotationOf}
 use Rattle.rules.specs.declared.Block.{Block}
-use Rattle.theorems.specs.Lists.{pick-true, pick-false}
+use Rattle.laws.proofs.Lists.{pick-true, pick-false}
 use Rattle.theorems.specs.Graphs.{written-read, entries-more, last-more, up-listed, listed-up, for-listed, listed-for}
 use Rattle.theorems.specs.Footprints.{near}
 use Rattle.theorems.specs.Program.{Sound}

@@ -21,7 +21,7 @@ use Rattle.rules.specs.declared.Instruction.{Instruction}
 use Rattle.rules.specs.declared.Block.{Block}
 use Rattle.rules.specs.declared.Place.{Place}
 use Rattle.laws.specs.Fit.{InstructionFit, BlockFit}
-use Rattle.theorems.specs.Lists.{pick-true, pick-false}
+use Rattle.laws.proofs.Lists.{pick-true, pick-false}
 use Rattle.theorems.specs.Evaluate.{made-inj, pick-made, made-pick, after-made, made-after}
 use Rattle.theorems.specs.Leaves.{forth-of, of-forth}
 use Rattle.theorems.specs.PaperShown.{Holds}

@@ -25,7 +25,7 @@ use Rattle.rules.specs.Annotation.{Annotation}
 use Rattle.rules.specs.declared.Block.{Block}
 use Rattle.rules.specs.declared.Place.{Place}
 use Rattle.laws.proofs.Pack.{Sized, clean, view-sized, view-pack, length-viewHistory}
-use Rattle.theorems.specs.Lists.{pick-true, pick-false, each-all}
+use Rattle.laws.proofs.Lists.{pick-true, pick-false, each-true}
 use Rattle.theorems.specs.Memory.{Fine}
 use Rattle.theorems.specs.Program.{Sound}
 use Rattle.theorems.specs.Codes.{Late, forward-late, undo-late}
@@ -106,7 +106,7 @@ module _ (l : Lent) where
         accepts = l .accepts;
         memory = machine .memory;
         memory-size = sizes .memory288;
-        memory-words = each-all (λ v. ltb v span) (machine .memory) 0 (λ i lt. lt-ltb (getD (machine .memory) i 0) span (memory-word i));
+        memory-words = each-true (λ v. ltb v span) 0 (machine .memory) (λ i lt. lt-ltb (getD (machine .memory) i 0) span (memory-word i));
       }
 
   pub lent-sound : Sound (l .program)

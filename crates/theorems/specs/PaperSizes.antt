@@ -18,7 +18,7 @@ use Rattle.rules.specs.Leaf.{made, leafForward, leafUndo, entryPlace, exitPlace
 use Rattle.rules.specs.Step.{moveRow, childRows, removeRows, keep, closeUp, waits, crowded, fork, merge, leafStep, forwardChildless, forward, undoFork, undoMerge, undoLeaf, undoChildless, undo}
 use Rattle.rules.specs.declared.Block.{Block}
 use Rattle.rules.specs.declared.Place.{Place}
-use Rattle.theorems.specs.Lists.{pick-true, pick-false}
+use Rattle.laws.proofs.Lists.{pick-true, pick-false}
 use Rattle.theorems.specs.Evaluate.{made-inj, made-pick, after-made}
 use Rattle.theorems.specs.Tables.{move-length}
 use Rattle.theorems.specs.Children.{insert-length, child-length}

@@ -16,7 +16,7 @@ use Rattle.rules.specs.Value.{span}
 use Rattle.rules.specs.Format.{variables, cells}
 use Rattle.rules.specs.Machine.{memoryWords}
 use Rattle.rules.specs.Paper.{Store}
-use Rattle.theorems.specs.Lists.{pick-true, pick-false}
+use Rattle.laws.proofs.Lists.{pick-true, pick-false}
 use Rattle.theorems.specs.Memory.{Fine}
 use Rattle.theorems.specs.PaperShown.{Holds, Words}
 use Rattle.theorems.specs.PaperLeaf.{Outside}

@@ -21,7 +21,7 @@ use Rattle.rules.specs.declared.Entry.{Entry}
 use Rattle.rules.specs.declared.Exit.{Exit}
 use Rattle.rules.specs.declared.Place.{Place}
 use Rattle.laws.specs.Fit.{OperandFit, ExpressionFit, EntryFit, ExitFit}
-use Rattle.theorems.specs.Lists.{pick-true, pick-false}
+use Rattle.laws.proofs.Lists.{pick-true, pick-false}
 use Rattle.theorems.specs.Evaluate.{made-inj, after-made, made-after, cell-made}
 use Rattle.theorems.specs.PaperShown.{Holds}
 

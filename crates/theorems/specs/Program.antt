@@ -28,7 +28,8 @@ use Rattle.rules.specs.declared.Block.{Block}
 use Rattle.rules.specs.declared.Place.{Place}
 use Rattle.theorems.specs.Graphs.{written-read}
 use Rattle.theorems.specs.Parts.{fromLabel, toLabel, tried, entryAt, exitAt, calls, intoOf, outOf, labelOf, homeOf, Standing, leafOf, unleafOf, readsOf, writesOf}
-use Rattle.theorems.specs.Lists.{pick-true, pick-false, times-append}
+use Rattle.laws.proofs.Lists.{pick-true, pick-false}
+use Rattle.laws.proofs.Times.{times-append}
 use Rattle.laws.specs.Fit.{BlockFit, InstructionFit, ExitFit, IsFrom, IsTo}
 use Rattle.theorems.specs.Accepted.{Passed}
 use Rattle.theorems.specs.Sites.{entry-in, exit-in, entry-block, exit-block, entry-holds, leads-on, begins-at}

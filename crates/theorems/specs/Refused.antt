@@ -20,7 +20,7 @@ use Rattle.rules.specs.Leaf.{Tried, made, refused, after, leafForward, leafUndo
 use Rattle.rules.specs.Step.{waits, crowded, fork, undoFork, merge, undoMerge, leafStep, undoLeaf, forwardChildless, forward, undoChildless, undo}
 use Rattle.rules.specs.declared.Block.{Block}
 use Rattle.rules.specs.declared.Place.{Place}
-use Rattle.theorems.specs.Lists.{pick-true, pick-false}
+use Rattle.laws.proofs.Lists.{pick-true, pick-false}
 use Rattle.theorems.specs.Evaluate.{refused-made, made-after}
 use Rattle.theorems.specs.Parts.{calls, intoOf, outOf}
 use Rattle.theorems.specs.Program.{Sound, call-in-image}

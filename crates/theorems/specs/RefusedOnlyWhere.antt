@@ -24,7 +24,7 @@ use Rattle.rules.specs.Paper.{Configuration}
 use Rattle.rules.specs.Annotation.{Annotation, annotationOf}
 use Rattle.rules.specs.declared.Block.{Block}
 use Rattle.rules.specs.declared.Place.{Place}
-use Rattle.theorems.specs.Lists.{pick-true, pick-false}
+use Rattle.laws.proofs.Lists.{pick-true, pick-false}
 use Rattle.theorems.specs.Evaluate.{refused-made, made-pick, after-made}
 use Rattle.theorems.specs.Memory.{Fine}
 use Rattle.theorems.specs.Parts.{calls}

@@ -19,7 +19,9 @@ use Rattle.rules.specs.declared.Entry.{Entry}
 use Rattle.rules.specs.declared.Exit.{Exit}
 use Rattle.rules.specs.declared.Block.{Block}
 use Rattle.rules.specs.declared.Place.{Place}
-use Rattle.theorems.specs.Lists.{each-append, each-times, times-here, times-past, times-other, lowest-one, lowest-found}
+use Rattle.laws.proofs.Lists.{each-parts}
+use Rattle.laws.proofs.Search.{lowest-one, lowest-found}
+use Rattle.laws.proofs.Times.{each-times, times-here, times-past, times-other}
 use Rattle.theorems.specs.Accepted.{Passed}
 
 -- ---- counting
@@ -172,19 +174,19 @@ module _ (program : List Block) (ok : Passed program) where
 
   pub entry-once : (b l : ℕ) → b < length program → 1 ≤ times l (entryLabels (blockOf program b .entry)) → Once l
   entry-once b l lt h =
-      once-of l (each-times (ordinary program) _ l (each-append (ordinary program) (entryLabels (blockOf program b .entry)) _ (both b lt .0) .0) h)
+      once-of l (each-times (ordinary program) _ l (each-parts (ordinary program) (entryLabels (blockOf program b .entry)) _ (both b lt .0) .0) h)
 
   pub exit-once : (b l : ℕ) → b < length program → 1 ≤ times l (exitLabels (blockOf program b .exit)) → Once l
   exit-once b l lt h =
-      once-of l (each-times (ordinary program) _ l (each-append (ordinary program) (entryLabels (blockOf program b .entry)) _ (both b lt .0) .1) h)
+      once-of l (each-times (ordinary program) _ l (each-parts (ordinary program) (entryLabels (blockOf program b .entry)) _ (both b lt .0) .1) h)
 
   pub begin-framed : (b l : ℕ) → b < length program → 1 ≤ times l (beginLabels (blockOf program b .entry)) → Framed l
   begin-framed b l lt h =
-      framed-of l (each-times (outer program) _ l (each-append (outer program) (beginLabels (blockOf program b .entry)) _ (both b lt .1) .0) h)
+      framed-of l (each-times (outer program) _ l (each-parts (outer program) (beginLabels (blockOf program b .entry)) _ (both b lt .1) .0) h)
 
   pub end-framed : (b l : ℕ) → b < length program → 1 ≤ times l (endLabels (blockOf program b .exit)) → Framed l
   end-framed b l lt h =
-      framed-of l (each-times (outer program) _ l (each-append (outer program) (beginLabels (blockOf program b .entry)) _ (both b lt .1) .1) h)
+      framed-of l (each-times (outer program) _ l (each-parts (outer program) (beginLabels (blockOf program b .entry)) _ (both b lt .1) .1) h)
 
   entry-one :
       (q : Place) (b c : ℕ) → b < length program → c < length program → entryHolds (blockOf program b .entry) q ≡ true →

@@ -24,7 +24,7 @@ use Rattle.rules.specs.declared.Exit.{Exit}
 use Rattle.rules.specs.declared.Block.{Block}
 use Rattle.rules.specs.declared.Place.{Place}
 use Rattle.laws.specs.Fit.{IsTo}
-use Rattle.theorems.specs.Lists.{pick-true, pick-false}
+use Rattle.laws.proofs.Lists.{pick-true, pick-false}
 use Rattle.theorems.specs.Leaves.{same-place}
 use Rattle.theorems.specs.Sites.{entry-in, exit-holds, entry-holds, entry-once, begin-framed, count-some, exit-block, at-end, out-run}
 use Rattle.theorems.specs.Parts.{calls, toLabel, outOf, labelOf, homeOf, Standing}

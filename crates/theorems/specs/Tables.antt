@@ -17,7 +17,7 @@ use Rattle.rules.specs.Machine.{Process, standing}
 use Rattle.rules.specs.Fits.{ascending}
 use Rattle.rules.specs.Step.{moveRow}
 use Rattle.rules.specs.declared.Place.{Place}
-use Rattle.theorems.specs.Lists.{pick-true, pick-false}
+use Rattle.laws.proofs.Lists.{pick-true, pick-false}
 
 abbrev pub rowAt : ℕ → Place → Process
 rowAt x a = record { identifier = x; stands = a }

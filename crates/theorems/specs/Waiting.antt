@@ -17,7 +17,7 @@ use Rattle.rules.specs.Base.{pick, each-of}
 use Rattle.rules.specs.Machine.{Process, Machine, child, isChildOf, standing, children}
 use Rattle.rules.specs.Step.{moveRow, waits}
 use Rattle.rules.specs.declared.Place.{Place}
-use Rattle.theorems.specs.Lists.{pick-true, pick-false}
+use Rattle.laws.proofs.Lists.{pick-true, pick-false}
 use Rattle.theorems.specs.Tables.{Sorted, standing-none, each-standing, standing-each, none-empty, those-sorted, those-standing, move-self, move-other}
 use Rattle.theorems.specs.Children.{Tree, Childless, kid-child, child-kid, puts, kids, by-row, outside}
 

@@ -4,21 +4,26 @@
 ghost use mathlib.Core.Path.{_≡_};
 ghost use mathlib.Core.List.{List};
 ghost use Prim.Native.Nat.{ℕ};
-ghost use lib.ListN.{length};
+ghost use lib.ListN.{length, replicate};
 ghost use Rattle.rules.specs.Judge.{judgement, numbers};
 ghost use Rattle.rules.specs.Words.{refuse, onImage, startBytesIn, startBytes, stepBytes};
+ghost use Rattle.rules.specs.List.{zeroRow, listBytes};
 ghost use Rattle.rules.specs.declared.Block.{Block};
+ghost use Rattle.rules.specs.declared.Row as Rules;
 ghost use Rattle.runtime.specs.Outcome.{outcomeOf};
-ghost use Rattle.table.specs.Listed.{listCode, listRows};
+ghost use Rattle.table.specs.Listed.{shown, written};
 use rules::Answer;
 use rules::Judged;
 use rules::Judgement;
 use rules::Row;
+use table::Listing;
 
-// The bytes of a first memory and of a machine.
+// The bytes of a first memory and of a machine, and the rows of a list.
 const MEMORY_BYTES: usize = 1152;
 
 const MACHINE_BYTES: usize = 34696;
+
+const ROWS: usize = 64;
 
 // The four numbers of a judgement.
 fn numbers_of(j: Judgement) -> Judged
@@ -110,20 +115,44 @@ pub extern "C" fn tillerwrap_step(
     answer
 }
 
-// The list: the code, and where it is 0 all 64 rows, a row a live process and the rest zero; else the rows stay as they are. A slice
+// The list of a machine or of rows of a wrong length.
+fn listing_of_16(image: &[u8]) -> Listing
+    ensures { λ r. ⌜ shown r ≡ onImage (now (image .entry)) (replicate 64 zeroRow) (λ program. refuse 16 0 (replicate 64 zeroRow)) ⌝ }
+{
+    let answer = wrong_length(image);
+    table::refused(answer.code, answer.place)
+}
+
+// The list into n rows, by value.
+fn listing_of(image: &[u8], machine: &[u8], n: usize) -> Listing
+    ensures { λ r. ⌜ ((lent : List Rules.Row) → length lent ≡ n → written (shown r) lent ≡ listBytes (now (image .entry)) (now (machine .entry)) lent) ⌝ }
+{
+    if n != ROWS {
+        return listing_of_16(image);
+    }
+    if machine.len() != MACHINE_BYTES {
+        return listing_of_16(image);
+    }
+    let mut words = [0u32; 8674];
+    bytes::words_of(machine, &mut words);
+    runtime::readiness::ready(image, &words)
+}
+
+// The list: where the code is 0 all 64 rows are written, a row a live process and the rest zero; else they stay as they are. A slice
 // of row structs: proved by hand.
 #[no_mangle]
-pub extern "C" fn tillerwrap_list(image: &[u8], machine: &[u8], rows: &mut [Row]) -> u32
-    ensures { λ r. ⌜ (r ≡ listCode (now (image .entry)) (now (machine .entry)) (length (now (rows .entry)))) × (now (rows .exit) ≡ listRows (now (image .entry)) (now (machine .entry)) (now (rows .entry))) ⌝ }
+pub extern "C" fn tillerwrap_list(image: &[u8], machine: &[u8], rows: &mut [Row]) -> Answer
+    ensures { λ r. ⌜ outcomeOf r (now (rows .exit)) ≡ listBytes (now (image .entry)) (now (machine .entry)) (now (rows .entry)) ⌝ }
 {
-    let code = table::list_code(image, machine, rows.len());
-    if code != 0 {
-        return code;
+    let listing = listing_of(image, machine, rows.len());
+    let answer = table::answer_of(listing);
+    if answer.code != 0 {
+        return answer;
     }
     let mut k = 0;
     while k < 64 {
-        rows[k] = table::row_for(image, machine, k);
+        rows[k] = table::row_of(listing, k);
         k = k + 1;
     }
-    0
+    answer
 }

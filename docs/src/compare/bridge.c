@@ -64,7 +64,7 @@ static struct answer make(const struct call *c)
     if (c->function == STEP)
         got = tillerwrap_step(image, c->image_length, c->process, c->direction, lent, c->lent_length);
     if (c->function == LIST)
-        got.code = tillerwrap_list(image, c->image_length, given, c->given_length, rows, c->lent_length / ROW);
+        got = tillerwrap_list(image, c->image_length, given, c->given_length, rows, c->lent_length / ROW);
     a.code = got.code, a.place = got.place;
     return a;
 }

@@ -53,8 +53,7 @@ main-peak-requires c κs =
     let h : length (a .homes .now) ≡ 128 = search needs in
     let c₁ : length (t .result .counts) ≡ 128 = search needs in
     let n₁ : length (t .result .names) ≡ 1024 = search needs in
-    let q : a .n ≤ 128 = c .before .before .before .before .before .before .before .before .before .before .before .pre .0 in
-    (
+    let q : a .n ≤ 128 = c .before .before .before .before .before .before .before .before .before .before .before .pre .0 in (
       record { few = q; all-homes = omega arith; all-counts = omega arith; all-names = omega arith; few-names = λ b l. t .ensures .few b },
       no-circle (a .homes .now) (t .result .counts) (t .result .names) (a .n) (subst (λ (r : ℕ). a .n ≤ r) (c .before .before .before .before .fourteen .ensures) (c .before .before .before .if1 .left)),
     )

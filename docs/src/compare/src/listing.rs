@@ -1,4 +1,4 @@
-//! Listing compared through the boundary: the code and every row, into 64 rows and into other counts of them; and, beside a step,
+//! Listing compared through the boundary: the answer and every row, into 64 rows and into other counts of them; and, beside a step,
 //! what the list says of that step.
 
 use independent::{Answer, Row, FIRST_WORDS, ROWS, WORDS};
@@ -28,7 +28,7 @@ fn foretold(code: u32, rows: &[Row], process: u32, direction: u32) -> Option<u32
 }
 
 impl Comparison<'_> {
-    /// One call of listing, both ways, into so many rows of anything: the code, and the rows after it.
+    /// One call of listing, both ways, into so many rows of anything: its code, and the rows after it.
     pub fn list(
         &mut self,
         image: &[u8],
@@ -38,13 +38,12 @@ impl Comparison<'_> {
         let mut rows: Vec<Row> = (0..count).map(|_| self.any_row()).collect();
         let mut lent = bytes_of(&rows);
         self.library.ask(Call::List(image, machine), &lent);
-        let code = independent::list_bytes(image, machine, &mut rows).code;
+        let theirs = independent::list_bytes(image, machine, &mut rows);
         let ours = self.library.answer(&mut lent);
-        let theirs = Answer { code, place: 0 };
         let what = format!("a list into {count} rows");
         alike(&what, image, (ours, &lent), (theirs, &bytes_of(&rows)))?;
-        self.tally.list(code, &rows);
-        Ok((code, rows))
+        self.tally.list(theirs.code, &rows);
+        Ok((theirs.code, rows))
     }
 
     fn any_row(&mut self) -> Row {

@@ -97,12 +97,11 @@ loop-less : tie.Need-loop-less Inv-loop μ-loop
 loop-less c = omega arith
 
 loop-again : tie.Need-loop-again Inv-loop μ-loop
-loop-again c =
-    (
-      omega arith,
-      omega arith,
-      onward (byMasks (c .before .before .before .before .before .before .before .before .before .before .before .before .before .before .before .args .reads .now) (c .before .before .before .before .before .before .before .before .before .before .before .before .before .before .before .args .writes .now) (c .before .before .before .before .before .before .before .before .before .before .before .before .before .before .before .args .m .now) (c .before .before .before .before .before .before .before .before .before .before .before .before .before .before .before .args .i)) (c .before .before .before .before .before .before .before .before .before .before .before .before .before .before .before .args .i) (c .before .before .before .before .before .before .before .loop .j) (c .before .before .before .before .before .before .before .loop .inv .2) (told (c .before .before .before .before .before .before .before .before .before .before .before .before .before .before .before .args .reads .now) (c .before .before .before .before .before .before .before .before .before .before .before .before .before .before .before .args .writes .now) (c .before .before .before .before .before .before .before .before .before .before .before .before .before .before .before .args .m .now) (c .before .before .before .before .before .before .before .before .before .before .before .before .before .before .before .args .i) (c .before .before .before .before .before .before .before .loop .j) (c .before .before .before .before .before .before .before .before .before .before .wide2 .result) (c .before .before .before .before .wide3 .result) (c .before .before .before .before .before .before .before .before .before .before .wide2 .ensures) (c .before .before .before .before .wide3 .ensures) (c .before .conflict .ensures) (c .if1 .left)),
-    )
+loop-again c = (
+  omega arith,
+  omega arith,
+  onward (byMasks (c .before .before .before .before .before .before .before .before .before .before .before .before .before .before .before .args .reads .now) (c .before .before .before .before .before .before .before .before .before .before .before .before .before .before .before .args .writes .now) (c .before .before .before .before .before .before .before .before .before .before .before .before .before .before .before .args .m .now) (c .before .before .before .before .before .before .before .before .before .before .before .before .before .before .before .args .i)) (c .before .before .before .before .before .before .before .before .before .before .before .before .before .before .before .args .i) (c .before .before .before .before .before .before .before .loop .j) (c .before .before .before .before .before .before .before .loop .inv .2) (told (c .before .before .before .before .before .before .before .before .before .before .before .before .before .before .before .args .reads .now) (c .before .before .before .before .before .before .before .before .before .before .before .before .before .before .before .args .writes .now) (c .before .before .before .before .before .before .before .before .before .before .before .before .before .before .before .args .m .now) (c .before .before .before .before .before .before .before .before .before .before .before .before .before .before .before .args .i) (c .before .before .before .before .before .before .before .loop .j) (c .before .before .before .before .before .before .before .before .before .before .wide2 .result) (c .before .before .before .before .wide3 .result) (c .before .before .before .before .before .before .before .before .before .before .wide2 .ensures) (c .before .before .before .before .wide3 .ensures) (c .before .conflict .ensures) (c .if1 .left)),
+)
 
 returns-2 : tie.Need-returns-2 Inv-loop μ-loop
 returns-2 c =

@@ -48,34 +48,44 @@ enum-told c = search needs
 returns-2 : tie.Need-returns-2
 unfolding expressionAt follows pick twoAt
 returns-2 c =
-    simp
-    (c .plain .ensures, c .before .operand .ensures, c .before .before .match .keys1,
-    lt-leb _ _ (c .before .before .before .before .if1 .left))
+    simp (
+      c .plain .ensures,
+      c .before .operand .ensures,
+      c .before .before .match .keys1,
+      lt-leb _ _ (c .before .before .before .before .if1 .left),
+    )
 
 returns-3 : tie.Need-returns-3
 unfolding expressionAt follows pick twoAt
 returns-3 c =
-    simp
-    (c .negation .ensures, c .before .operand2 .ensures, c .before .before .match .keys2,
-    lt-leb _ _ (c .before .before .before .before .if1 .left))
+    simp (
+      c .negation .ensures,
+      c .before .operand2 .ensures,
+      c .before .before .match .keys2,
+      lt-leb _ _ (c .before .before .before .before .if1 .left),
+    )
 
 returns-4 : tie.Need-returns-4
 unfolding expressionAt follows pick twoAt
 returns-4 c =
-    simp
-    (c .first-of-two .ensures, c .before .operand3 .ensures,
-    sym (c .before .before .before .before .before .operator-of .ensures) ∙ ap operatorShown (c .before .before .before .operator .given .1),
-    ne-eqb _ _ (c .before .before .before .before .before .before .match .rest .1),
-    ne-eqb _ _ (c .before .before .before .before .before .before .match .rest .0 .1),
-    lt-leb _ _ (c .before .before .before .before .before .before .before .before .if1 .left))
+    simp (
+      c .first-of-two .ensures,
+      c .before .operand3 .ensures,
+      sym (c .before .before .before .before .before .operator-of .ensures) ∙ ap operatorShown (c .before .before .before .operator .given .1),
+      ne-eqb _ _ (c .before .before .before .before .before .before .match .rest .1),
+      ne-eqb _ _ (c .before .before .before .before .before .before .match .rest .0 .1),
+      lt-leb _ _ (c .before .before .before .before .before .before .before .before .if1 .left),
+    )
 
 returns-5 : tie.Need-returns-5
 unfolding expressionAt follows pick twoAt
 returns-5 c =
-    simp
-    (sym (c .before .before .operator-of .ensures) ∙ ap operatorShown (c .enum-told .given .1),
-    ne-eqb _ _ (c .before .before .before .match .rest .1), ne-eqb _ _ (c .before .before .before .match .rest .0 .1),
-    lt-leb _ _ (c .before .before .before .before .before .if1 .left))
+    simp (
+      sym (c .before .before .operator-of .ensures) ∙ ap operatorShown (c .enum-told .given .1),
+      ne-eqb _ _ (c .before .before .before .match .rest .1),
+      ne-eqb _ _ (c .before .before .before .match .rest .0 .1),
+      lt-leb _ _ (c .before .before .before .before .before .if1 .left),
+    )
 
 pub expression-spec : {M : Type 1} → statement M
 expression-spec =

@@ -64,51 +64,72 @@ call-or-unknown-requires c κs = search needs
 returns-2 : tie.Need-returns-2
 unfolding instructionAt updateAt exchangeAt follows pick
 returns-2 c =
-    simp
-    (c .update .ensures, c .before .left-operand .ensures, c .before .before .match .keys1,
-    lt-leb _ _ (c .before .before .before .before .if1 .left))
+    simp (
+      c .update .ensures,
+      c .before .left-operand .ensures,
+      c .before .before .match .keys1,
+      lt-leb _ _ (c .before .before .before .before .if1 .left),
+    )
 
 returns-3 : tie.Need-returns-3
 unfolding instructionAt updateAt exchangeAt follows pick
 returns-3 c =
-    simp
-    (c .update2 .ensures, c .before .left-operand2 .ensures, c .before .before .match .keys2,
-    lt-leb _ _ (c .before .before .before .before .if1 .left))
+    simp (
+      c .update2 .ensures,
+      c .before .left-operand2 .ensures,
+      c .before .before .match .keys2,
+      lt-leb _ _ (c .before .before .before .before .if1 .left),
+    )
 
 returns-4 : tie.Need-returns-4
 unfolding instructionAt updateAt exchangeAt follows pick
 returns-4 c =
-    simp
-    (c .update3 .ensures, c .before .left-operand3 .ensures, c .before .before .match .keys3,
-    lt-leb _ _ (c .before .before .before .before .if1 .left))
+    simp (
+      c .update3 .ensures,
+      c .before .left-operand3 .ensures,
+      c .before .before .match .keys3,
+      lt-leb _ _ (c .before .before .before .before .if1 .left),
+    )
 
 returns-5 : tie.Need-returns-5
 unfolding instructionAt updateAt exchangeAt follows pick
 returns-5 c =
-    simp
-    (c .exchange .ensures, c .before .left-operand4 .ensures, c .before .before .match .keys4,
-    lt-leb _ _ (c .before .before .before .before .if1 .left))
+    simp (
+      c .exchange .ensures,
+      c .before .left-operand4 .ensures,
+      c .before .before .match .keys4,
+      lt-leb _ _ (c .before .before .before .before .if1 .left),
+    )
 
 returns-6 : tie.Need-returns-6
 unfolding instructionAt updateAt exchangeAt follows pick
 returns-6 c =
-    simp
-    (c .op-v .ensures, c .before .variable .ensures, c .before .before .match .keys5,
-    lt-leb _ _ (c .before .before .before .before .if1 .left))
+    simp (
+      c .op-v .ensures,
+      c .before .variable .ensures,
+      c .before .before .match .keys5,
+      lt-leb _ _ (c .before .before .before .before .if1 .left),
+    )
 
 returns-7 : tie.Need-returns-7
 unfolding instructionAt updateAt exchangeAt follows pick
 returns-7 c =
-    simp
-    (c .op-p .ensures, c .before .variable2 .ensures, c .before .before .match .keys6,
-    lt-leb _ _ (c .before .before .before .before .if1 .left))
+    simp (
+      c .op-p .ensures,
+      c .before .variable2 .ensures,
+      c .before .before .match .keys6,
+      lt-leb _ _ (c .before .before .before .before .if1 .left),
+    )
 
 returns-8 : tie.Need-returns-8
 unfolding instructionAt updateAt exchangeAt follows pick
 returns-8 c =
-    simp
-    (c .assertion .ensures, c .before .expression .ensures, c .before .before .match .keys7,
-    lt-leb _ _ (c .before .before .before .before .if1 .left))
+    simp (
+      c .assertion .ensures,
+      c .before .expression .ensures,
+      c .before .before .match .keys7,
+      lt-leb _ _ (c .before .before .before .before .if1 .left),
+    )
 
 returns-9 : tie.Need-returns-9
 unfolding instructionAt updateAt exchangeAt follows pick
@@ -117,12 +138,18 @@ returns-9 c = simp (c .match .keys8, lt-leb _ _ (c .before .before .if1 .left))
 returns-10 : tie.Need-returns-10
 unfolding instructionAt updateAt exchangeAt follows pick
 returns-10 c =
-    simp
-    (c .call-or-unknown .ensures, ne-eqb _ _ (c .before .match .rest .1), ne-eqb _ _ (c .before .match .rest .0 .1),
-    ne-eqb _ _ (c .before .match .rest .0 .0 .1), ne-eqb _ _ (c .before .match .rest .0 .0 .0 .1),
-    ne-eqb _ _ (c .before .match .rest .0 .0 .0 .0 .1), ne-eqb _ _ (c .before .match .rest .0 .0 .0 .0 .0 .1),
-    ne-eqb _ _ (c .before .match .rest .0 .0 .0 .0 .0 .0 .1), ne-eqb _ _ (c .before .match .rest .0 .0 .0 .0 .0 .0 .0 .1),
-    lt-leb _ _ (c .before .before .before .if1 .left))
+    simp (
+      c .call-or-unknown .ensures,
+      ne-eqb _ _ (c .before .match .rest .1),
+      ne-eqb _ _ (c .before .match .rest .0 .1),
+      ne-eqb _ _ (c .before .match .rest .0 .0 .1),
+      ne-eqb _ _ (c .before .match .rest .0 .0 .0 .1),
+      ne-eqb _ _ (c .before .match .rest .0 .0 .0 .0 .1),
+      ne-eqb _ _ (c .before .match .rest .0 .0 .0 .0 .0 .1),
+      ne-eqb _ _ (c .before .match .rest .0 .0 .0 .0 .0 .0 .1),
+      ne-eqb _ _ (c .before .match .rest .0 .0 .0 .0 .0 .0 .0 .1),
+      lt-leb _ _ (c .before .before .before .if1 .left),
+    )
 
 pub instruction-spec : {M : Type 1} → statement M
 instruction-spec =

@@ -28,9 +28,11 @@ shared-slice-read-m c = search needs
 returns-2 : tie.Need-returns-2
 unfolding labelsAt whole pick
 returns-2 c =
-    simp
-    (eq-eqb _ _ (c .if2 .taken), lt-leb _ _ (c .before .before .before .if1 .left),
-    c .before .before .before .before .rest .ensures)
+    simp (
+      eq-eqb _ _ (c .if2 .taken),
+      lt-leb _ _ (c .before .before .before .if1 .left),
+      c .before .before .before .before .rest .ensures,
+    )
 
 add-t6 : tie.Need-add-t6
 add-t6 c = search needs
@@ -38,9 +40,11 @@ add-t6 c = search needs
 returns-3 : tie.Need-returns-3
 unfolding labelsAt whole pick
 returns-3 c =
-    simp
-    (ne-eqb _ _ (c .if2 .left), lt-leb _ _ (c .before .before .before .if1 .left),
-    c .before .before .before .before .rest .ensures)
+    simp (
+      ne-eqb _ _ (c .if2 .left),
+      lt-leb _ _ (c .before .before .before .if1 .left),
+      c .before .before .before .before .rest .ensures,
+    )
 
 pub labels-spec : {M : Type 1} → statement M
 labels-spec =

@@ -34,30 +34,42 @@ end-requires c κs = search needs
 returns-2 : tie.Need-returns-2
 unfolding leafExitAt follows pick
 returns-2 c =
-    simp
-    (c .to .ensures, c .before .label .ensures, c .before .before .match .keys1,
-    lt-leb _ _ (c .before .before .before .before .if1 .left))
+    simp (
+      c .to .ensures,
+      c .before .label .ensures,
+      c .before .before .match .keys1,
+      lt-leb _ _ (c .before .before .before .before .if1 .left),
+    )
 
 returns-3 : tie.Need-returns-3
 unfolding leafExitAt follows pick
 returns-3 c =
-    simp
-    (c .condition .ensures, c .before .labels .ensures, c .before .before .match .keys2,
-    lt-leb _ _ (c .before .before .before .before .if1 .left))
+    simp (
+      c .condition .ensures,
+      c .before .labels .ensures,
+      c .before .before .match .keys2,
+      lt-leb _ _ (c .before .before .before .before .if1 .left),
+    )
 
 returns-4 : tie.Need-returns-4
 unfolding leafExitAt follows pick
 returns-4 c =
-    simp
-    (c .end .ensures, c .before .label2 .ensures, c .before .before .match .keys3,
-    lt-leb _ _ (c .before .before .before .before .if1 .left))
+    simp (
+      c .end .ensures,
+      c .before .label2 .ensures,
+      c .before .before .match .keys3,
+      lt-leb _ _ (c .before .before .before .before .if1 .left),
+    )
 
 returns-5 : tie.Need-returns-5
 unfolding leafExitAt follows pick
 returns-5 c =
-    simp
-    (ne-eqb _ _ (c .match .rest .1), ne-eqb _ _ (c .match .rest .0 .1), ne-eqb _ _ (c .match .rest .0 .0 .1),
-    lt-leb _ _ (c .before .before .if1 .left))
+    simp (
+      ne-eqb _ _ (c .match .rest .1),
+      ne-eqb _ _ (c .match .rest .0 .1),
+      ne-eqb _ _ (c .match .rest .0 .0 .1),
+      lt-leb _ _ (c .before .before .if1 .left),
+    )
 
 pub leaf-exit-spec : {M : Type 1} → statement M
 leaf-exit-spec =

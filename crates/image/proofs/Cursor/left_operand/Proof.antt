@@ -28,16 +28,22 @@ cell-target-requires c κs = search needs
 returns-2 : tie.Need-returns-2
 unfolding targetAt follows pick
 returns-2 c =
-    simp
-    (c .variable-target .ensures, c .before .variable .ensures, c .before .before .match .keys1,
-    lt-leb _ _ (c .before .before .before .before .if1 .left))
+    simp (
+      c .variable-target .ensures,
+      c .before .variable .ensures,
+      c .before .before .match .keys1,
+      lt-leb _ _ (c .before .before .before .before .if1 .left),
+    )
 
 returns-3 : tie.Need-returns-3
 unfolding targetAt follows pick
 returns-3 c =
-    simp
-    (c .cell-target .ensures, c .before .variable2 .ensures, c .before .before .match .keys2,
-    lt-leb _ _ (c .before .before .before .before .if1 .left))
+    simp (
+      c .cell-target .ensures,
+      c .before .variable2 .ensures,
+      c .before .before .match .keys2,
+      lt-leb _ _ (c .before .before .before .before .if1 .left),
+    )
 
 returns-4 : tie.Need-returns-4
 unfolding targetAt follows pick

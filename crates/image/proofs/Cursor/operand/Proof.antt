@@ -35,23 +35,32 @@ returns-2 c = simp (c .constant .ensures, c .before .match .keys1, lt-leb _ _ (c
 returns-3 : tie.Need-returns-3
 unfolding operandAt follows pick
 returns-3 c =
-    simp
-    (c .variable-operand .ensures, c .before .variable .ensures, c .before .before .match .keys2,
-    lt-leb _ _ (c .before .before .before .before .if1 .left))
+    simp (
+      c .variable-operand .ensures,
+      c .before .variable .ensures,
+      c .before .before .match .keys2,
+      lt-leb _ _ (c .before .before .before .before .if1 .left),
+    )
 
 returns-4 : tie.Need-returns-4
 unfolding operandAt follows pick
 returns-4 c =
-    simp
-    (c .cell-operand .ensures, c .before .variable2 .ensures, c .before .before .match .keys3,
-    lt-leb _ _ (c .before .before .before .before .if1 .left))
+    simp (
+      c .cell-operand .ensures,
+      c .before .variable2 .ensures,
+      c .before .before .match .keys3,
+      lt-leb _ _ (c .before .before .before .before .if1 .left),
+    )
 
 returns-5 : tie.Need-returns-5
 unfolding operandAt follows pick
 returns-5 c =
-    simp
-    (ne-eqb _ _ (c .match .rest .1), ne-eqb _ _ (c .match .rest .0 .1), ne-eqb _ _ (c .match .rest .0 .0 .1),
-    lt-leb _ _ (c .before .before .if1 .left))
+    simp (
+      ne-eqb _ _ (c .match .rest .1),
+      ne-eqb _ _ (c .match .rest .0 .1),
+      ne-eqb _ _ (c .match .rest .0 .0 .1),
+      lt-leb _ _ (c .before .before .if1 .left),
+    )
 
 pub operand-spec : {M : Type 1} → statement M
 operand-spec =

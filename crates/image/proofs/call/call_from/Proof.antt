@@ -31,10 +31,12 @@ add-t10 c = search needs
 returns-2 : tie.Need-returns-2
 unfolding whole pick
 returns-2 c =
-    simp
-    (c .index2 .ensures .0, c .before .names-at .ensures,
-    lt-leb _ _ (rw (c .before .before .before .index .ensures .0) at (c .before .before .if1 .left)),
-    c .before .before .before .before .rest .ensures)
+    simp (
+      c .index2 .ensures .0,
+      c .before .names-at .ensures,
+      lt-leb _ _ (rw (c .before .before .before .index .ensures .0) at (c .before .before .if1 .left)),
+      c .before .before .before .before .rest .ensures,
+    )
 
 pub call-from-spec : {M : Type 1} → statement M
 call-from-spec =

@@ -31,12 +31,16 @@ name-at-requires-8 c κs = search needs
 returns : tie.Need-returns
 unfolding namesAt
 returns c =
-    simp
-    (c .name-at8 .ensures, c .before .name-at7 .ensures, c .before .before .name-at6 .ensures,
-    c .before .before .before .name-at5 .ensures, c .before .before .before .before .name-at4 .ensures,
-    c .before .before .before .before .before .name-at3 .ensures,
-    c .before .before .before .before .before .before .name-at2 .ensures,
-    c .before .before .before .before .before .before .before .name-at .ensures)
+    simp (
+      c .name-at8 .ensures,
+      c .before .name-at7 .ensures,
+      c .before .before .name-at6 .ensures,
+      c .before .before .before .name-at5 .ensures,
+      c .before .before .before .before .name-at4 .ensures,
+      c .before .before .before .before .before .name-at3 .ensures,
+      c .before .before .before .before .before .before .name-at2 .ensures,
+      c .before .before .before .before .before .before .before .name-at .ensures,
+    )
 
 pub names-at-spec : {M : Type 1} → statement M
 names-at-spec =

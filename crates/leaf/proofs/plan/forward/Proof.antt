@@ -1,6 +1,6 @@
 -- `leaf::plan::forward` meets its contract: the memory is the machine's words 2 to 289. Assumes nothing.
 use Rattle.rules.specs.Machine.{view}
-use Rattle.leaf.proofs.Tries.{plans-at, forward-is}
+use Rattle.leaf.proofs.Sides.{plans-at, forward-is}
 use borrow.Author.Needs.{needs}
 use Rattle.leaf.proofs.plan.forward.Statement.{statement}
 use Rattle.leaf.proofs.plan.forward.Tie as tie

@@ -1,8 +1,9 @@
 -- `leaf::plan::onward` meets its contract: the side is read through the writes. Assumes nothing.
 use mathlib.Core.Path.{subst}
 use Rattle.rules.specs.Leaf.{after}
-use Rattle.leaf.specs.Shown.{actedShown, planShown, ActedFit}
-use Rattle.leaf.proofs.Tries.{plans-at}
+use Rattle.act.specs.Acts.{actedShown, ActedFit}
+use Rattle.leaf.specs.Shown.{planShown}
+use Rattle.leaf.proofs.Sides.{plans-at}
 use borrow.Author.Needs.{needs}
 use Rattle.leaf.proofs.plan.onward.Statement.{statement}
 use Rattle.leaf.proofs.plan.onward.Tie as tie

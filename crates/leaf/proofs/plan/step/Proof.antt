@@ -3,7 +3,7 @@ use mathlib.Core.Path.{sym, ap, _∙_}
 use Rattle.evaluate.specs.Shown.{written}
 use Rattle.leaf.specs.Shown.{placedShown, planShown}
 use Rattle.leaf.specs.Side.{leafStep}
-use Rattle.leaf.proofs.Tries.{plans-at, arrives, strays, breaks}
+use Rattle.leaf.proofs.Sides.{plans-at, arrives, strays, breaks}
 use borrow.Author.Needs.{needs}
 use Rattle.leaf.proofs.plan.step.Statement.{statement}
 use Rattle.leaf.proofs.plan.step.Tie as tie

@@ -2,7 +2,8 @@
 use mathlib.Core.Path.{sym, _∙_, subst}
 use Rattle.rules.specs.Machine.{view}
 use Rattle.laws.specs.Fit.{InstructionFit}
-use Rattle.leaf.proofs.Tries.{plans-at, undo-is, inverse-fit}
+use Rattle.act.proofs.Tries.{inverse-fit}
+use Rattle.leaf.proofs.Sides.{plans-at, undo-is}
 use borrow.Author.Needs.{needs}
 use Rattle.leaf.proofs.plan.undo.Statement.{statement}
 use Rattle.leaf.proofs.plan.undo.Tie as tie

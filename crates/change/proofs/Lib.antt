@@ -1,0 +1,4 @@
+-- Laws that other crates cite.
+pub mod Calls
+pub mod Places
+pub mod Family

@@ -1,0 +1,3 @@
+-- Laws that other crates cite.
+pub mod Bits
+pub mod Fill

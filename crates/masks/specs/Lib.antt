@@ -1,0 +1,3 @@
+-- What the contracts of this crate cite beside rules.
+pub mod Mask
+pub mod Masks

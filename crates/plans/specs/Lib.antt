@@ -1,0 +1,2 @@
+-- Definitions that the contracts of the plans cite.
+pub mod Known

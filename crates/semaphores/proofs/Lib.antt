@@ -1,0 +1,2 @@
+-- Laws of rules' definitions that this crate's proofs cite.
+pub mod Marking

@@ -1,0 +1,3 @@
+-- Laws of programs that the proofs of several crates cite.
+pub mod Programs
+pub mod Searching
