@@ -1,5 +1,4 @@
--- Laws of words as bytes: their lengths, the word and the bytes at an index, a turn of each loop, and that a whole number of
--- words gives back its bytes. Assumes nothing.
+-- Laws of words as bytes: their lengths, the word and the bytes at an index, a turn of each loop. Assumes nothing.
 use mathlib.Core.Path.{_≡_, refl, sym, ap, ap₂, _∙_}
 use mathlib.Core.List.{List, [], _∷_, _++_, append-nil}
 use Prim.Native.Nat.{ℕ, zero, suc, _+_, _*_, _/_, _%_, _≤_, _<_}
@@ -10,7 +9,6 @@ use lib.ListN.{length, take, drop, getD, set, length-drop, drop-of-length-le}
 use lib.Seq.{getD-drop, drop-cons, take-all}
 use Rattle.rules.specs.Format.{wordFrom, wordAt}
 use Rattle.rules.specs.Words.{wordsOf, bytesOf}
-use Rattle.laws.specs.Fit.{Bytes}
 
 -- ---- lengths
 pub length-wordsOf : (b : List ℕ) (n : ℕ) → length b ≡ 4 * n → length (wordsOf b) ≡ n
@@ -119,23 +117,3 @@ four-turn w d i h l =
 
     up : (i : ℕ) → 4 * i + 3 + 1 ≡ 4 * (i + 1)
     up i = omega arith
-
--- ---- bytes that are a whole number of words come back as they were
-digits :
-    (a b c d : ℕ) → a < 256 → b < 256 → c < 256 → d < 256 →
-    (wordFrom a b c d % 256 ≡ a) × (wordFrom a b c d / 256 % 256 ≡ b) × (wordFrom a b c d / 65536 % 256 ≡ c)
-    × (wordFrom a b c d / 16777216 % 256 ≡ d)
-digits a b c d i j k l = (omega arith, omega arith, omega arith, omega arith)
-
-pub bytes-again : (bytes : List ℕ) (n : ℕ) → length bytes ≡ 4 * n → Bytes bytes → bytesOf (wordsOf bytes) ≡ bytes
-unfolding wordsOf bytesOf
-bytes-again [] n h f = refl
-bytes-again (a ∷ []) n h f = absurd (omega arith)
-bytes-again (a ∷ b ∷ []) n h f = absurd (omega arith)
-bytes-again (a ∷ b ∷ c ∷ []) n h f = absurd (omega arith)
-bytes-again (a ∷ b ∷ c ∷ d ∷ bytes) zero h f = absurd (omega arith)
-bytes-again (a ∷ b ∷ c ∷ d ∷ bytes) (suc n) h f =
-    let q = digits a b c d (f 0) (f 1) (f 2) (f 3) in
-    ap₂ (λ (x y : ℕ). x ∷ y ∷ wordFrom a b c d / 65536 % 256 ∷ wordFrom a b c d / 16777216 % 256 ∷ bytesOf (wordsOf bytes)) (q .0) (q .1)
-    ∙ ap₂ (λ (x y : ℕ). a ∷ b ∷ x ∷ y ∷ bytesOf (wordsOf bytes)) (q .2) (q .3)
-    ∙ ap (λ (l : List ℕ). a ∷ b ∷ c ∷ d ∷ l) (bytes-again bytes n (omega arith) (λ k. f (suc (suc (suc (suc k))))))

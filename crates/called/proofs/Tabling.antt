@@ -12,7 +12,7 @@ use lib.Dec.{eqb}
 use borrow.Author.Tests.{eq-eqb, ne-eqb}
 use borrow.Author.Count.{below-none, below-more}
 use Rattle.rules.specs.Base.{some-of}
-use Rattle.rules.specs.Labels.{calledBy, begins, bad12}
+use Rattle.rules.specs.Labels.{calledBy, bad12}
 use Rattle.rules.specs.Calls.{bad13}
 use Rattle.rules.specs.declared.Block.{Block}
 use Rattle.laws.specs.CallTable.{callsFrom}

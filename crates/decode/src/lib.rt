@@ -1,5 +1,4 @@
 // The one decode of a whole image, for judging and stepping: document 01, "The image", and codes 1 to 8 of "Judging".
-ghost use mathlib.Core.Path.{_≡_};
 ghost use Prim.Native.Nat.{_≤_};
 ghost use lib.ListN.{length};
 ghost use Rattle.rules.specs.Format.{longest, mostBlocks};

@@ -1,12 +1,11 @@
 -- One turn of each loop of `edits`, over lists. Assumes nothing.
-use mathlib.Core.Path.{_≡_, refl, sym, ap, _∙_, subst}
+use mathlib.Core.Path.{_≡_, sym, ap, _∙_}
 use mathlib.Core.List.{List, [], _∷_, _++_, append-assoc, append-nil}
-use Prim.Native.Nat.{ℕ, zero, suc, _+_, _-_, _≤_, _<_}
+use Prim.Native.Nat.{ℕ, suc, _+_, _-_, _≤_, _<_}
 use native.Mathlib.Numerals.{add-one}
 use native.Mathlib.Omega.{arith}
-use native.Mathlib.Nat.{add-assoc}
-use lib.ListN.{length, take, drop, getD, set, length-replicate, getD-replicate, length-set, length-append, length-take, length-drop, List·getD-append, take-append-drop, drop-of-length-le}
-use lib.Seq.{paste, paste-suc, paste-zero, length-paste, take-all, length-take-le, drop-paste, getD-drop, getD-take, drop-cons, set-at, drop-length, append-snoc, take-suc, getD-append-add}
+use lib.ListN.{length, take, drop, getD, set, length-replicate, getD-replicate, length-append, length-take, length-drop, List·getD-append, take-append-drop, drop-of-length-le}
+use lib.Seq.{paste, paste-suc, length-take-le, drop-paste, getD-drop, getD-take, drop-cons, set-at, take-suc}
 use Rattle.rules.specs.Base.{zeros}
 
 -- a turn that clears

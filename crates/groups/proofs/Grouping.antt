@@ -8,7 +8,6 @@ use lib.ListN.{length, take, getD, set, length-set, length-map}
 use lib.Seq.{getD-set-same, getD-set-other, ext-getD, length-take-le}
 use borrow.Author.Count.{below-none, below-more}
 use Rattle.rules.specs.Base.{upFrom}
-use Rattle.rules.specs.Format.{labels}
 use Rattle.rules.specs.Labels.{labelNode, ordinaryLabels, entryLabels, exitLabels, renamed, joinNodes, joinLabels, groupsFrom, groups}
 use Rattle.rules.specs.declared.Block.{Block}
 use Rattle.groups.specs.Nodes.{allNodes}

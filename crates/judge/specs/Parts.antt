@@ -1,5 +1,4 @@
 -- The later parts of rules' judgedBlocks, under names that the functions of this crate cite.
-use Prim.Native.Nat.{ℕ}
 use mathlib.Core.List.{List}
 use lib.ListN.{length}
 use Rattle.rules.specs.Base.{pick}

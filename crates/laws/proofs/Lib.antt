@@ -12,3 +12,4 @@ pub mod Reached
 pub mod Rank
 pub mod PeakRight
 pub mod Words
+pub mod Bytes

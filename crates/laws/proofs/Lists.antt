@@ -4,10 +4,13 @@ use mathlib.Core.Bool.{Bool, true, false, not, _&&_, and-false}
 use mathlib.Core.List.{List, [], _∷_, _++_}
 use Prim.Native.Nat.{ℕ, zero, suc, _<_}
 use native.Mathlib.Nat.{not-suc-le-zero, le-of-suc-le-suc}
-use lib.ListN.{length, getD}
+use lib.ListN.{length, getD, List·getD-eq-default}
 use native.Mathlib.Omega.{arith}
+use lib.Dec.{ltb}
+use borrow.Author.Tests.{ltb-true, ltb-false}
+use mathlib.Core.Logic.{_⊎_, inl, inr}
 use Rattle.rules.specs.Base.{pick, each-of, those}
-use Rattle.theory.specs.Tests.{true-false, and-true, true-and}
+use Rattle.theory.specs.Tests.{true-false, bool-cases, and-true, true-and}
 
 module _ {A : Type 0} where
   pub each-append : (p : A → Bool) (l m : List A) → each-of p (l ++ m) ≡ (each-of p l && each-of p m)
@@ -83,3 +86,11 @@ module _ {A : Type 0} (p : A → Bool) (d : A) where
   each-false [] i k h = absurd (omega arith)
   each-false (a ∷ l) zero k h = rw h
   each-false (a ∷ l) (suc i) k h = rw (each-false l i (omega arith) h) (and-false (p a))
+
+-- numbers that are each below a bound, by their place; past the end stands 0
+pub each-below : (l : List ℕ) (n : ℕ) → 0 < n → each-of (λ v. ltb v n) l ≡ true → (i : ℕ) → getD l i 0 < n
+each-below l n pos h i = go (bool-cases (ltb i (length l)))
+  where
+    go : (ltb i (length l) ≡ true) ⊎ (ltb i (length l) ≡ false) → getD l i 0 < n
+    go (inl k) = ltb-true (getD l i 0) n (each-at (λ v. ltb v n) 0 l h i (ltb-true i (length l) k))
+    go (inr k) = let z : getD l i 0 ≡ 0 = List·getD-eq-default l 0 (ltb-false i (length l) k) in omega (arith, z, pos)

@@ -1,7 +1,7 @@
 -- Tests that are joined by "or" and "and". Assumes nothing.
 use mathlib.Core.Path.{_≡_, refl}
 use mathlib.Core.Bool.{Bool, true, false, _&&_, _||_}
-use Prim.Native.Nat.{ℕ, _≤_, min, max}
+use Prim.Native.Nat.{_≤_, min, max}
 use native.Mathlib.Omega.{arith}
 use Rattle.rules.specs.Value.{flag}
 pub use Rattle.theory.specs.Tests.{true-false, and-true, true-and, or-cases, or-left, or-right}

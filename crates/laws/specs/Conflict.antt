@@ -1,7 +1,6 @@
 -- When two kept steps conflict: one writes what the other reads. (What is written is also read.)
 use mathlib.Core.Bool.{Bool, _&&_, _||_}
 use mathlib.Core.List.{List}
-use Prim.Native.Nat.{ℕ}
 use Rattle.rules.specs.Base.{someBelow}
 use Rattle.rules.specs.Names.{resources}
 use Rattle.rules.specs.Machine.{Kept}

@@ -3,7 +3,7 @@
 use Prim.Native.Nat.{ℕ, zero, suc, _+_}
 use mathlib.Core.List.{List, [], _∷_, _++_}
 use lib.ListN.{take, drop}
-use Rattle.rules.specs.Machine.{Process, Kept, Machine, place}
+use Rattle.rules.specs.Machine.{Process, Machine, place}
 
 -- an entry put at the end; the entry at i taken out
 unfoldable pub kept : Machine → ℕ → ℕ → Machine

@@ -1,6 +1,6 @@
 -- The cause graph of any history is an annotation DAG of 004's: all five conditions of definition 1. Step by step: one more kept step
 -- adds a node, with edges from the last writers to it, and no edge leaves it yet. Assumes nothing.
-use mathlib.Core.Path.{_≡_, refl, sym, ap, _∙_, subst}
+use mathlib.Core.Path.{_≡_, sym, _∙_, subst}
 use mathlib.Core.Logic.{_⊎_, inl, inr}
 use mathlib.Core.Bool.{Bool, true, false}
 use mathlib.Core.List.{List, [], _∷_, _++_, List·Memᴰ}
@@ -11,19 +11,10 @@ use Rattle.rules.specs.Machine.{Kept}
 use Rattle.rules.specs.Cause.{Node, Source, startMark, node, nodeOf, lastWriter, nodes, edges}
 use Rattle.rules.specs.Annotation.{Annotation, anyEdge, nodeAt, Chain, edge, onward, IsDag, Last, unwritten, written, annotationOf}
 use Rattle.rules.specs.declared.Block.{Block}
+use Rattle.theorems.specs.Graphs.{node-inj, not-mark}
 use Rattle.theorems.specs.PaperGraph.{by-newest, numbered, Past, edgeTo, New, edge-more, none-edged, last-past, sited, whole, ends}
 
 -- ---- the last node of the write edges
-node-inj : (v w : Node) → node v ≡ node w → v ≡ w
-node-inj v w e = cc
-
-not-mark : (v : Node) → startMark ≡ node v → ⊥
-not-mark v e = true-false refl (ap marked e)
-  where
-    marked : Source → Bool
-    marked startMark = true
-    marked (node w) = false
-
 module _ (A : Annotation) (r : ℕ) where
   -- no write edge leaves it
   none-after : (t : Source) (v : Node) → Last A r t → A .writeEdge t r v → ⊥

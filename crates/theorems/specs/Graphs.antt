@@ -92,8 +92,11 @@ abbrev IsMark : Source → Type 0
 IsMark startMark = Unit {0}
 IsMark (node n) = ⊥
 
-node-inj : (m n : Node) → Path Source (node m) (node n) → m ≡ n
+pub node-inj : (m n : Node) → node m ≡ node n → m ≡ n
 node-inj m n h = cc
+
+pub not-mark : (v : Node) → startMark ≡ node v → ⊥
+not-mark v e = subst IsMark e tt
 
 pub source-inj : (s t : Origin) → sourceOf s ≡ sourceOf t → s ≡ t
 source-inj start start h = refl

@@ -4,13 +4,12 @@ use mathlib.Core.Logic.{_⊎_, inl, inr}
 use mathlib.Core.Bool.{true, false, not, _&&_}
 use mathlib.Core.Option.{Option, none, some}
 use mathlib.Core.List.{List, [], _∷_}
-use Prim.Native.Nat.{ℕ, _<_}
+use Prim.Native.Nat.{ℕ}
 use native.Mathlib.Omega.{arith}
-use lib.ListN.{length, getD, List·getD-eq-default}
+use lib.ListN.{length}
 use lib.Dec.{eqb, ltb}
-use borrow.Author.Tests.{ltb-true, ltb-false}
 use Rattle.theory.specs.Tests.{bool-cases, eqb-same, true-and}
-use Rattle.rules.specs.Base.{pick, each-of}
+use Rattle.rules.specs.Base.{pick}
 use Rattle.rules.specs.Value.{span}
 use Rattle.rules.specs.Machine.{Machine, standing, started, pack, view, memoryWords, machineWords}
 use Rattle.rules.specs.Fits.{fits}
@@ -21,7 +20,7 @@ use Rattle.rules.specs.declared.Block.{Block}
 use Rattle.rules.specs.declared.Place.{Place}
 use Rattle.laws.proofs.Decoded.{fit, few}
 use Rattle.laws.proofs.Pack.{Sized, length-pack, view-pack}
-use Rattle.laws.proofs.Lists.{pick-true, pick-false, each-at}
+use Rattle.laws.proofs.Lists.{pick-true, pick-false, each-below}
 use Rattle.theorems.specs.Accepted.{passed}
 use Rattle.theorems.specs.Memory.{Fine}
 use Rattle.theorems.specs.Program.{Sound}
@@ -29,14 +28,6 @@ use Rattle.theorems.specs.Reached.{Reached, reached-memory, reached-star
 use Rattle.theorems.specs.Fitting.{reached-machine-fits, reached-room}
 use Rattle.theorems.specs.Packed.{packed-fits}
 use Rattle.theorems.specs.Played.{Call, play, Subject, startedIn, playedIn}
-
--- numbers that are each below a bound, by their place; past the end stands 0
-pub each-below : (l : List ℕ) (n : ℕ) → 0 < n → each-of (λ v. ltb v n) l ≡ true → (i : ℕ) → getD l i 0 < n
-each-below l n pos h i = go (bool-cases (ltb i (length l)))
-  where
-    go : (ltb i (length l) ≡ true) ⊎ (ltb i (length l) ≡ false) → getD l i 0 < n
-    go (inl k) = ltb-true (getD l i 0) n (each-at (λ v. ltb v n) 0 l h i (ltb-true i (length l) k))
-    go (inr k) = let z : getD l i 0 ≡ 0 = List·getD-eq-default l 0 (ltb-false i (length l) k) in omega (arith, z, pos)
 
 module _ (s : Subject) where
   pub sound : Sound (s .program)

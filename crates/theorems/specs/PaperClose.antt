@@ -20,13 +20,13 @@ use Rattle.rules.specs.Names.{blockReads, blockWrites}
 use Rattle.rules.specs.Labels.{blockOf}
 use Rattle.rules.specs.Machine.{Kept}
 use Rattle.rules.specs.Fits.{newest, orElse}
-use Rattle.rules.specs.Cause.{reads, writes, Node, Source, startMark, node, Edge, entriesOf, lastWriter, nodesFrom, edgesFrom, nodes, edges, sameNode, sameSource, isNewest, noneLeaves, isReadOf, readsLast, mayGoBack, newestNode, holds}
+use Rattle.rules.specs.Cause.{reads, writes, Node, Source, node, Edge, entriesOf, lastWriter, nodesFrom, edgesFrom, nodes, edges, sameNode, sameSource, isNewest, noneLeaves, isReadOf, readsLast, mayGoBack, newestNode, holds}
 use Rattle.rules.specs.Annotation.{Annotation, nodeAt, Whole, Last, unwritten, written, Extends}
 use Rattle.rules.specs.Step.{closeUp}
 use Rattle.rules.specs.declared.Block.{Block}
 use Rattle.laws.proofs.Ascending.{close-at}
 use Rattle.laws.proofs.Lists.{pick-true, pick-false}
-use Rattle.theorems.specs.Graphs.{feetOf, shows-none, node-listed, listed-node, edge-listed, listed-edge}
+use Rattle.theorems.specs.Graphs.{node-inj, not-mark, feetOf, shows-none, node-listed, listed-node, edge-listed, listed-edge}
 use Rattle.theorems.specs.Held.{NoneOf, held, held-none, apart-all, mem-each, those-mem, unread, same-source, source-same}
 use Rattle.theorems.specs.Program.{Sound}
 use Rattle.theorems.specs.Forward.{stepOf}
@@ -143,16 +143,9 @@ module _ (program : List Block) where
     absent a = let l = E .newest (E .number) .0 a in omega (arith, l)
 
     not-last : (r : ℕ) (t : Source) → Last A r t → t ≡ node (nodeAt p (E .number)) → ⊥
-    not-last r t (unwritten n) q = true-false refl (ap is-mark q)
-      where
-        is-mark : Source → Bool
-        is-mark startMark = true
-        is-mark (node v) = false
+    not-last r t (unwritten n) q = not-mark (nodeAt p (E .number)) q
     not-last r t (written {s} {v} e n) q =
         absent (subst (A .vertex) (node-inj v (nodeAt p (E .number)) q) (W .targets s r v (inr e)))
-      where
-        node-inj : (v w : Node) → node v ≡ node w → v ≡ w
-        node-inj v w e = cc
 
     none-leaves : (s : Source) (r : ℕ) (v : Node) (w : Bool) → List·Memᴰ (edgeTo s r v w) (edges program h) → s ≡ node (nodeAt p (E .number)) → ⊥
     none-leaves s r v false m q = go (E .reads s r v .0 m)

@@ -25,12 +25,12 @@ use Rattle.rules.specs.Annotation.{Annotation}
 use Rattle.rules.specs.declared.Block.{Block}
 use Rattle.rules.specs.declared.Place.{Place}
 use Rattle.laws.proofs.Pack.{Sized, clean, view-sized, view-pack, length-viewHistory}
-use Rattle.laws.proofs.Lists.{pick-true, pick-false, each-true}
+use Rattle.laws.proofs.Lists.{pick-true, pick-false, each-true, each-below}
 use Rattle.theorems.specs.Memory.{Fine}
 use Rattle.theorems.specs.Program.{Sound}
 use Rattle.theorems.specs.Codes.{Late, forward-late, undo-late}
 use Rattle.theorems.specs.Played.{Subject}
-use Rattle.theorems.specs.Linked.{each-below, sound, on-image}
+use Rattle.theorems.specs.Linked.{sound, on-image}
 use Rattle.theorems.specs.PaperShown.{Shows, StepFrom, StepTo, Lent}
 use Rattle.theorems.specs.PaperValues.{at-same, at-other}
 use Rattle.theorems.specs.PaperRows.{Rows}

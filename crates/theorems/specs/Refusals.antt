@@ -1,17 +1,16 @@
 -- Demand 1, refusals: whenever a call answers a code other than 0, the lent slice is left as it was handed in. For starting,
 -- stepping and listing, on words and on bytes, whatever is handed in. Assumes nothing but that a lent byte is below 256.
-use mathlib.Core.Path.{_≡_, refl, ap, ap₂, _∙_}
+use mathlib.Core.Path.{_≡_, refl, ap, _∙_}
 use mathlib.Core.Bool.{Bool, true, false, not, _&&_}
 use mathlib.Core.Option.{Option, none, some}
-use mathlib.Core.List.{List, [], _∷_}
-use Prim.Native.Nat.{ℕ, zero, suc, _*_, _/_, _%_, _<_}
+use mathlib.Core.List.{List}
+use Prim.Native.Nat.{ℕ, _*_}
 use native.Mathlib.Omega.{arith}
 use lib.ListN.{length}
 use lib.Dec.{eqb, ltb}
-use borrow.Author.Tests.{ltb-true, eqb-true}
+use borrow.Author.Tests.{eqb-true}
 use Rattle.theory.specs.Tests.{and-true}
 use Rattle.rules.specs.Base.{pick, each-of}
-use Rattle.rules.specs.Format.{wordFrom}
 use Rattle.rules.specs.Read.{Reading, got, fault, decoded}
 use Rattle.rules.specs.Judge.{judgedBlocks}
 use Rattle.rules.specs.Calls.{mostRows}
@@ -24,6 +23,8 @@ use Rattle.rules.specs.declared.Block.{Block}
 use Rattle.rules.specs.declared.Judgement.{Judgement}
 use Rattle.rules.specs.declared.Place.{Place}
 use Rattle.rules.specs.declared.Row.{Row}
+use Rattle.laws.proofs.Lists.{each-below}
+use Rattle.laws.proofs.Bytes.{bytes-again}
 
 -- a call is refused: it answers a code other than 0
 abbrev pub IsRefused : {Lent : Type 0} → Outcome Lent → Type 0
@@ -96,35 +97,12 @@ list-in words rows program =
     (λ t. pick-keeps (fits program words) rows _ _ (λ u. accept-keeps rows (rowsOf program (view words))) (refuse-keeps 17 0 rows))
     (refuse-keeps 16 0 rows)
 
--- ---- on bytes: of a whole number of words, they come back as they were
-digits :
-    (a b c d : ℕ) → a < 256 → b < 256 → c < 256 → d < 256 →
-    (wordFrom a b c d % 256 ≡ a) × (wordFrom a b c d / 256 % 256 ≡ b) × (wordFrom a b c d / 65536 % 256 ≡ c)
-    × (wordFrom a b c d / 16777216 % 256 ≡ d)
-digits a b c d i j k l = (omega arith, omega arith, omega arith, omega arith)
-
-bytes-again : (bytes : List ℕ) (n : ℕ) → length bytes ≡ 4 * n → Bytes bytes → bytesOf (wordsOf bytes) ≡ bytes
-unfolding wordsOf bytesOf each-of
-bytes-again [] n h f = refl
-bytes-again (a ∷ []) n h f = absurd (omega arith)
-bytes-again (a ∷ b ∷ []) n h f = absurd (omega arith)
-bytes-again (a ∷ b ∷ c ∷ []) n h f = absurd (omega arith)
-bytes-again (a ∷ b ∷ c ∷ d ∷ bytes) zero h f = absurd (omega arith)
-bytes-again (a ∷ b ∷ c ∷ d ∷ bytes) (suc n) h f =
-    let fa = and-true (ltb a 256) _ f in
-    let fb = and-true (ltb b 256) _ (fa .1) in
-    let fc = and-true (ltb c 256) _ (fb .1) in
-    let fd = and-true (ltb d 256) _ (fc .1) in
-    let q = digits a b c d (ltb-true a 256 (fa .0)) (ltb-true b 256 (fb .0)) (ltb-true c 256 (fc .0)) (ltb-true d 256 (fd .0)) in
-    ap₂ (λ (x y : ℕ). x ∷ y ∷ wordFrom a b c d / 65536 % 256 ∷ wordFrom a b c d / 16777216 % 256 ∷ bytesOf (wordsOf bytes)) (q .0) (q .1)
-    ∙ ap₂ (λ (x y : ℕ). a ∷ b ∷ x ∷ y ∷ bytesOf (wordsOf bytes)) (q .2) (q .3)
-    ∙ ap (λ (l : List ℕ). a ∷ b ∷ c ∷ d ∷ l) (bytes-again bytes n (omega arith) (fd .1))
-
+-- ---- on bytes
 bytes-keep :
     (bytes : List ℕ) (o : Outcome (List ℕ)) → Bytes bytes → hasWords bytes machineWords ≡ true →
     Keeps (wordsOf bytes) o → Keeps bytes (toBytes o)
 unfolding toBytes
-bytes-keep bytes o f h k r = ap bytesOf (k r) ∙ bytes-again bytes machineWords (eqb-true (length bytes) (4 * machineWords) h) f
+bytes-keep bytes o f h k r = ap bytesOf (k r) ∙ bytes-again bytes machineWords (eqb-true (length bytes) (4 * machineWords) h) (each-below bytes 256 (omega arith) f)
 
 start-bytes-in : (first bytes : List ℕ) (program : List Block) → Bytes bytes → Keeps bytes (startBytesIn first bytes program)
 unfolding startBytesIn

@@ -1,17 +1,13 @@
 -- From lent bytes to words and back: a start and a step on the words of the bytes are the start and the step on the bytes.
 -- Assumes nothing.
-use mathlib.Core.Path.{_≡_, refl, sym, ap, _∙_}
-use mathlib.Core.Bool.{Bool, true, false, _&&_}
+use mathlib.Core.Path.{_≡_, sym, ap, _∙_}
 use mathlib.Core.List.{List}
-use Prim.Native.Nat.{ℕ, _*_}
-use native.Mathlib.Omega.{arith}
+use Prim.Native.Nat.{ℕ}
 use lib.ListN.{length}
-use lib.Dec.{eqb}
 use borrow.Author.Tests.{eq-eqb, ne-eqb}
 use Rattle.rules.specs.Base.{pick}
 use Rattle.rules.specs.Read.{Reading, got, fault, decoded}
 use Rattle.rules.specs.Judge.{judgedBlocks}
-use Rattle.rules.specs.Machine.{pack, started}
 use Rattle.rules.specs.Words.{Outcome, refuse, judgedThen, readThen, onImage, startIn, stepIn, step, wordsOf, bytesOf, toBytes}
 use Rattle.rules.specs.Words.{startBytesIn, stepBytesIn, stepBytes}
 use Rattle.rules.specs.declared.Answer.{Answer}
@@ -20,7 +16,8 @@ use Rattle.rules.specs.declared.Judgement.{Judgement}
 use Rattle.laws.specs.Fit.{Bytes}
 use Rattle.machine.specs.Outcome.{outcome}
 use Rattle.runtime.specs.Outcome.{outcomeOf}
-use Rattle.bytes.proofs.Laws.{length-wordsOf, bytes-again}
+use Rattle.bytes.proofs.Laws.{length-wordsOf}
+use Rattle.laws.proofs.Bytes.{bytes-again}
 use Rattle.theorems.specs.Refusals.{refusal-keeps}
 
 -- ---- starting, on an image that is accepted

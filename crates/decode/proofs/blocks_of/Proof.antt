@@ -1,6 +1,6 @@
 -- `decode::blocks_of` meets its contract. The loop's invariant: n blocks are read and stand first in the array, and what the
 -- whole reading gives is they with what is read from `at` on. The measure is the room that is left. Assumes nothing.
-use Prim.Native.Nat.{ℕ, _≤_, _<_, _-_}
+use Prim.Native.Nat.{_≤_, _<_, _-_}
 use mathlib.Core.Path.{_≡_, refl, sym, ap, _∙_}
 use native.Mathlib.Omega.{arith}
 use borrow.Author.Needs.{needs}

@@ -1,11 +1,11 @@
 -- `edits::clear` meets its contract. Assumes nothing.
-use mathlib.Core.Path.{_≡_, refl, sym, ap, _∙_}
+use mathlib.Core.Path.{_≡_, refl, ap, _∙_}
 use mathlib.Core.List.{List, _++_}
-use Prim.Native.Nat.{ℕ, _+_, _-_, _≤_, _<_}
+use Prim.Native.Nat.{ℕ, _+_, _-_, _≤_}
 use native.Mathlib.Omega.{arith}
-use lib.ListN.{length, take, drop, getD, set, replicate, length-replicate, length-set, length-drop}
+use lib.ListN.{length, take, drop, set, length-replicate, length-set}
 use lib.Seq.{paste, paste-zero, take-all}
-use native.Mathlib.Nat.{le-antisymm, le-of-eq}
+use native.Mathlib.Nat.{le-of-eq}
 use Rattle.rules.specs.Base.{zeros}
 use Rattle.edits.proofs.Laws.{clear-turn}
 use Rattle.edits.proofs.clear.Statement.{statement}

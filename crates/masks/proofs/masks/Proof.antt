@@ -1,9 +1,9 @@
 -- `masks::masks` meets its contract. The loop's invariant: the masks of the blocks before b stand. Assumes nothing.
 use mathlib.Core.Path.{_≡_, _∙_}
-use Prim.Native.Nat.{ℕ, _+_, _-_, _<_, _≤_}
+use Prim.Native.Nat.{ℕ, _-_, _<_, _≤_}
 use native.Mathlib.Omega.{arith}
 use borrow.Author.Needs.{needs}
-use lib.ListN.{length, getD, length-replicate, length-set}
+use lib.ListN.{length, length-replicate, length-set}
 use Rattle.rules.specs.Names.{blockReads, blockWrites}
 use Rattle.masks.proofs.Fill.{Filled, fill-more, read-fit, read-mask, filled}
 use Rattle.masks.proofs.masks.Statement.{statement}

@@ -1,6 +1,5 @@
 -- `cause::held::conflict` meets its contract. Assumes nothing.
-use mathlib.Core.Path.{sym, ap, _∙_}
-use mathlib.Core.Bool.{Bool, _||_}
+use mathlib.Core.Path.{sym, _∙_}
 use borrow.Author.Needs.{needs}
 use Rattle.cause.proofs.held.conflict.Statement.{statement}
 use Rattle.cause.proofs.held.conflict.Tie as tie

@@ -1,7 +1,7 @@
 -- `cause::held::held` meets its contract. The loop's invariant: no entry between i and j conflicts with i, by the masks. Assumes nothing.
-use mathlib.Core.Path.{_≡_, sym, ap, _∙_}
+use mathlib.Core.Path.{_≡_}
 use mathlib.Core.Bool.{false}
-use Prim.Native.Nat.{ℕ, _+_, _-_, _*_, _<_, _≤_}
+use Prim.Native.Nat.{ℕ, _-_, _<_, _≤_}
 use native.Mathlib.Omega.{arith}
 use Rattle.rules.specs.Machine.{historyCount}
 use Rattle.cause.proofs.Scan.{byMasks, none-later, some-later, told, onward}
