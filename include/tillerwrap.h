@@ -199,8 +199,9 @@ struct tillerwrap_row {
  * Lists what each live process of a machine could do, into 64 lent rows: row_count counts rows, not bytes.
  *
  * The codes are tried in this order: those of judging the image, with their places; 16 where machine_length is not
- * TILLERWRAP_MACHINE_BYTES or row_count is not TILLERWRAP_ROW_COUNT; 17. On code 0 every row is written: one for each live process, in the order of the machine's
- * rows, with the codes that tillerwrap_step would answer, and zeros in the rest. On any other code no row is. The machine is only read.
+ * TILLERWRAP_MACHINE_BYTES or row_count is not TILLERWRAP_ROW_COUNT; 17. On code 0 every row is written: one for each live
+ * process, in the order of the machine's rows, with the codes that tillerwrap_step would answer, and zeros in the rest. On any
+ * other code no row is. The machine is only read.
  */
 struct tillerwrap_answer tillerwrap_list(const uint8_t *image, size_t image_length, const uint8_t *machine, size_t machine_length,
                                          struct tillerwrap_row *rows, size_t row_count);

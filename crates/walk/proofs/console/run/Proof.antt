@@ -1,10 +1,10 @@
--- `console::run` is safe and ends. The measure is the number of turns that are left; the words stay as many. Assumes nothing.
+-- `walk::console::run` is safe and ends. The measure is the number of turns that are left; the words stay as many. Assumes nothing.
 use mathlib.Core.Path.{_≡_, refl}
 use native.Mathlib.Omega.{arith}
 use borrow.Author.Needs.{needs}
 use lib.ListN.{length}
-use Rattle.console.proofs.run.Statement.{statement}
-use Rattle.console.proofs.run.Tie as tie
+use Rattle.walk.proofs.console.run.Statement.{statement}
+use Rattle.walk.proofs.console.run.Tie as tie
 
 abbrev Inv-loop : tie.InvT-loop
 Inv-loop image words₀ turns₀ words turns = length words ≡ length words₀
