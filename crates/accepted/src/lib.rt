@@ -1,5 +1,7 @@
 // The blocks of an accepted image and any words: the plan of a step, document 01, the codes 16, 17, 19 and 18, then those of the step
 // itself; and in readiness the list.
+#![tactic(auto)]
+
 ghost use Rattle.std.specs.Prelude.{◌≡◌, ◌<◌, ◌≤◌, length, take};
 ghost use Rattle.rules.specs.Machine.{live_count, view};
 ghost use Rattle.rules.specs.Fits as Rules;

@@ -1,4 +1,6 @@
 // What an instruction does to a memory, as writes that are pending. An undo acts by the inverse instruction. Everything here only reads.
+#![tactic(auto)]
+
 ghost use Rattle.std.specs.Prelude.{◌≡◌, List, ℕ, ◌<◌, length};
 ghost use Rattle.rules.specs.Machine.{memory_words};
 ghost use Rattle.rules.specs.Leaf.{after, update, exchange, semaphore_step, act, inverse_change, inverse};

@@ -1,4 +1,6 @@
 // Words as bytes, four a word, low byte first: how a slice of words crosses the C boundary and how the files of a session hold one.
+#![tactic(auto)]
+
 ghost use Rattle.std.specs.Prelude.{◌≡◌, ◌+◌, ◌*◌, ◌≤◌, length};
 ghost use Rattle.rules.specs.Format.{word_at};
 ghost use Rattle.rules.specs.Words.{words_of, bytes_of};

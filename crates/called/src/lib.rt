@@ -1,4 +1,6 @@
 // Codes 12 and 13, and the table of calls that codes 14 and 15 want.
+#![tactic(auto)]
+
 ghost use Rattle.std.specs.Prelude.{List, ◌≡◌, ◌+◌, ◌≤◌, length, take, get_or, eqb};
 ghost use Rattle.std.proofs.Math.Seq.{paste};
 ghost use Rattle.rules.specs.Base.{lowest, some_of};

@@ -1,5 +1,7 @@
 // Codes 14 and 15 on flat tables. Of each of n blocks they have the label of its process block (homes), how many labels it
 // calls (counts, 0 where it is no call), and eight places for those labels (names).
+#![tactic(auto)]
+
 ghost use Rattle.std.specs.Prelude.{◌≡◌, max};
 
 mod circles;

@@ -2,6 +2,8 @@
 // back with values and cause graphs, and the four errors that look right. They come as a script on standard input, which
 // docs/src/independent/tests/cases.rs has in readable form; docs/src/independent/src/bin/play.rs describes its records and the
 // lines. What is proved is that this is safe and ends; what it prints is compared with the stored output.
+#![tactic(auto)]
+
 use rules::Judgement;
 
 mod graph;

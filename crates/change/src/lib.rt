@@ -1,5 +1,7 @@
 // Changes of a machine's words in place: a value of the memory, an entry kept or closed up, a row moved, rows put in and taken out.
 // Laws in proofs/ take each to `pack` of the changed machine.
+#![tactic(auto)]
+
 ghost use Rattle.std.specs.Prelude.{◌≡◌, ◌+◌, ◌*◌, ◌≤◌, ◌<◌, length, get_or};
 ghost use Rattle.change.specs.Words.{written_words, kept_entry, closed_entry, moved_row, inserted_rows, removed_rows};
 

@@ -1,4 +1,6 @@
 // The children's rows that a fork, or the undo of a merge, puts in.
+#![tactic(auto)]
+
 ghost use Rattle.std.specs.Prelude.{◌≡◌, ◌+◌, ◌≤◌, ◌<◌, length, get_or};
 ghost use Rattle.rules.specs.Format.{named};
 ghost use Rattle.rules.specs.Machine.{pack_rows};

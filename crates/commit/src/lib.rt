@@ -1,4 +1,6 @@
 // The commit of a plan: the machine's words become those of the machine that the plan makes, and stay as they are where it refuses.
+#![tactic(auto)]
+
 ghost use Rattle.std.specs.Prelude.{◌≡◌, length};
 ghost use Rattle.rules.specs.Machine.{pack, view};
 ghost use Rattle.evaluate.specs.Shown.{WritesFit};

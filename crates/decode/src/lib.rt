@@ -1,4 +1,6 @@
 // The one decode of a whole image, for judging and stepping: document 01, "The image", and codes 1 to 8 of "Judging".
+#![tactic(auto)]
+
 ghost use Rattle.std.specs.Prelude.{◌≤◌, length};
 ghost use Rattle.rules.specs.Format.{longest, most_blocks};
 ghost use Rattle.rules.specs.Read.{blocks_at, decoded};

@@ -1,4 +1,6 @@
 // Loops over a lent slice of words: copy in, clear, close a gap, open a gap.
+#![tactic(auto)]
+
 ghost use Rattle.std.specs.Prelude.{◌≡◌, ◌+◌, ◌-◌, ◌≤◌, ◌<◌, ◌++◌, length, take, drop};
 ghost use Rattle.rules.specs.Base.{zeros};
 

@@ -1,5 +1,7 @@
 // Evaluation on a memory of 288 values, the variables and then the cells, read through writes that are pending: so a condition is
 // evaluated "on the new memory" before anything is written. Each function's answer is rules' (Leaf.antt).
+#![tactic(auto)]
+
 ghost use Rattle.std.specs.Prelude.{◌≡◌, ◌<◌, length, get_or};
 ghost use Rattle.rules.specs.Machine.{memory_words};
 ghost use Rattle.rules.specs.Value.{negated, applied};

@@ -1,4 +1,6 @@
 // What a plan reads of a process's children: where their rows begin, how many they are, and whether all stand at a stage.
+#![tactic(auto)]
+
 ghost use Rattle.std.specs.Prelude.{◌≡◌, not, ◌||◌, ◌≤◌, length, eqb};
 ghost use Rattle.rules.specs.Base.{pick, each_of};
 ghost use Rattle.rules.specs.Machine.{live_count, view, child, is_child_of, children};

@@ -1,5 +1,7 @@
 // Code 17, document 01: do a machine's words fit a program? Exactly rules' `fits`, from the words and the tables of the program; linear
 // in the history but for a search by halves among the live rows.
+#![tactic(auto)]
+
 mod children;
 mod rows;
 

@@ -1,5 +1,7 @@
 // The plan of a forward step, document 01: 21 at stage end, 20, 26, then a merge where the process has children, else a fork or a
 // leaf's step of the block whose entry holds its place.
+#![tactic(auto)]
+
 ghost use Rattle.std.specs.Prelude.{◌≡◌, List, ◌<◌};
 ghost use Rattle.rules.specs.Labels.{block_of};
 ghost use Rattle.rules.specs.Machine.{view, history_count};

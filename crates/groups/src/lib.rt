@@ -1,5 +1,7 @@
 // Which blocks are joined by ordinary labels, over any chain. A node is block b, as b, or label l, as 128 + l; each node has
 // the number that its group goes by, and joining two nodes renames the group of one.
+#![tactic(auto)]
+
 ghost use Rattle.std.specs.Prelude.{map, ◌≡◌, ◌<◌, ◌≤◌, length, take};
 ghost use Rattle.rules.specs.Base.{up_from};
 ghost use Rattle.rules.specs.Format.{most_blocks};

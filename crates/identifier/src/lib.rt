@@ -1,4 +1,6 @@
 // Identifiers of processes: the root is 0, child i of p is 16p + i.
+#![tactic(auto)]
+
 ghost use Rattle.std.specs.Prelude.{◌≡◌, ◌%◌, ◌<◌};
 ghost use Rattle.rules.specs.Machine.{child, parent};
 

@@ -1,5 +1,7 @@
 // The records of an image: document 01, "The image", and codes 2, 3, 4, 6, 7 and 8 of "Judging". A cursor goes by value; each
 // of its methods reads one record, with those that must follow it, and hands back the moved cursor or the refusal.
+#![tactic(auto)]
+
 mod call;
 pub mod entry;
 pub mod exit;

@@ -1,4 +1,6 @@
 // Judging an image, codes 1 to 15 with their places: what document 01 answers for any bytes.
+#![tactic(auto)]
+
 ghost use Rattle.std.specs.Prelude.{◌≡◌, map, ◌≤◌, take};
 ghost use Rattle.rules.specs.Base.{up_from};
 ghost use Rattle.rules.specs.Labels.{home};

@@ -1,4 +1,6 @@
 // The clause of code 17 that speaks of each history entry: its block and its identifier.
+#![tactic(auto)]
+
 ghost use Rattle.std.specs.Prelude.{◌≡◌, ◌&&◌, List, length, ltb};
 ghost use Rattle.rules.specs.Base.{each_of};
 ghost use Rattle.rules.specs.Calls.{deepest};

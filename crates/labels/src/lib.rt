@@ -1,4 +1,6 @@
 // Code 10: each label is counted, over all blocks, as an ordinary label of an entry and of an exit, as a begin and as an end.
+#![tactic(auto)]
+
 ghost use Rattle.std.specs.Prelude.{◌≡◌, ◌≤◌, length, take};
 ghost use Rattle.rules.specs.Base.{lowest, each_of};
 ghost use Rattle.rules.specs.Format.{most_blocks, labels};

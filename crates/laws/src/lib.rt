@@ -1,4 +1,6 @@
 // Tiny functions that several crates call. The laws about rules' definitions that their proofs cite stand in proofs/.
+#![tactic(auto)]
+
 ghost use Rattle.std.specs.Prelude.{◌≡◌, ◌<◌};
 ghost use Rattle.rules.specs.Labels.{no_block};
 

@@ -1,5 +1,7 @@
 // The machine: one lent slice of 8,674 words, with each field at its fixed word (document 01, "The machine"). Here are the words'
 // places, the start, and the search for a process's row.
+#![tactic(auto)]
+
 pub mod find;
 pub mod start;
 

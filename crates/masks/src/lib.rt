@@ -1,5 +1,7 @@
 // What a block reads and writes, as masks of resources (document 01, "The cause graph"); the masks of all blocks are computed once an
 // image.
+#![tactic(auto)]
+
 pub mod mask;
 
 ghost use Rattle.std.specs.Prelude.{◌≤◌, take};

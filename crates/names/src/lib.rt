@@ -1,4 +1,6 @@
 // What a block names: the variables of its parts, and the heap with each cell.
+#![tactic(auto)]
+
 pub mod itself;
 
 ghost use Rattle.std.specs.Prelude.{◌||◌, ◌≡◌, eqb};

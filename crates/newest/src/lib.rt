@@ -1,4 +1,6 @@
 // The clause of code 17 that speaks of the newest history entry of each live process.
+#![tactic(auto)]
+
 ghost use Rattle.std.specs.Prelude.{◌≡◌, ◌||◌, List, ◌≤◌, length, eqb};
 ghost use Rattle.rules.specs.Base.{each_of};
 ghost use Rattle.rules.specs.Machine.{begin, view};

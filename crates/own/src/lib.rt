@@ -1,5 +1,7 @@
 // The clause of code 17 on where a row may stand: in its process's own process block. That is main for the root, and for child i of p the i-th label of
 // the call at whose exit label p stands.
+#![tactic(auto)]
+
 ghost use Rattle.std.specs.Prelude.{◌≡◌, List, ℕ, ◌≤◌, length};
 ghost use Rattle.rules.specs.Base.{each_of};
 ghost use Rattle.rules.specs.Machine.{place, view};

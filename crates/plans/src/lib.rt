@@ -1,4 +1,6 @@
 // The plans of one live process, by the tables of the image: what a step would do, the code that it would answer, and the step made.
+#![tactic(auto)]
+
 ghost use Rattle.std.specs.Prelude.{◌≡◌, ◌<◌, ◌≤◌, take};
 ghost use Rattle.rules.specs.Labels.{block_of};
 ghost use Rattle.rules.specs.Machine.{live_count, view};

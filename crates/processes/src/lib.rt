@@ -1,4 +1,6 @@
 // Code 11, and the label of each block's process block: the begins and ends of each group of blocks.
+#![tactic(auto)]
+
 ghost use Rattle.std.specs.Prelude.{not, ◌&&◌, map, ◌≡◌, ◌<◌, ◌≤◌, length, take, get_or, eqb};
 ghost use Rattle.rules.specs.Base.{pick, lowest, up_from};
 ghost use Rattle.rules.specs.Format.{most_blocks};

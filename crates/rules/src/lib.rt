@@ -1,8 +1,9 @@
 // What an image decodes to, and the answers of the public functions: the types that every crate shares.
 // Their definitions stand in specs/, in the order of document 01. This crate has no code.
+#![tactic(auto)]
 
 // A constant is a word; a variable and a cell M[x] are named by the variable's number.
-#[derive(Drop)]
+#[derive(Clone, Copy)]
 pub enum Operand {
     Constant(u32),
     Variable(u8),
@@ -10,14 +11,14 @@ pub enum Operand {
 }
 
 // What an update or an exchange writes: x or M[x].
-#[derive(Drop)]
+#[derive(Clone, Copy)]
 pub enum Target {
     Variable(u8),
     Cell(u8),
 }
 
 // The eleven operators over two operands, in the order of their kinds.
-#[derive(Drop)]
+#[derive(Clone, Copy)]
 pub enum Operator {
     Add,
     Subtract,
@@ -32,7 +33,7 @@ pub enum Operator {
     Or,
 }
 
-#[derive(Drop)]
+#[derive(Clone, Copy)]
 pub enum Expression {
     Plain(Operand),
     Not(Operand),
@@ -40,7 +41,7 @@ pub enum Expression {
 }
 
 // += -= ^=
-#[derive(Drop)]
+#[derive(Clone, Copy)]
 pub enum Change {
     Add,
     Subtract,
@@ -48,7 +49,7 @@ pub enum Change {
 }
 
 // The labels that a call names, the first in first; those from count on are 0.
-#[derive(Drop)]
+#[derive(Clone, Copy)]
 pub struct Names {
     pub count: u8,
     pub first: u8,
@@ -62,7 +63,7 @@ pub struct Names {
 }
 
 // OpV and OpP are V x and P x.
-#[derive(Drop)]
+#[derive(Clone, Copy)]
 pub enum Instruction {
     Update(Change, Target, Expression),
     Exchange(Target, Target),
@@ -74,7 +75,7 @@ pub enum Instruction {
 }
 
 // `l <-`; `l1;l2 <- e`; `begin l`
-#[derive(Drop)]
+#[derive(Clone, Copy)]
 pub enum Entry {
     From(u8),
     Either(u8, u8, Expression),
@@ -82,14 +83,14 @@ pub enum Entry {
 }
 
 // `-> l`; `e -> l1;l2`; `end l`
-#[derive(Drop)]
+#[derive(Clone, Copy)]
 pub enum Exit {
     To(u8),
     Either(Expression, u8, u8),
     End(u8),
 }
 
-#[derive(Drop)]
+#[derive(Clone, Copy)]
 pub struct Block {
     pub entry: Entry,
     pub instruction: Instruction,
@@ -97,7 +98,7 @@ pub struct Block {
 }
 
 // What judging finds: a code with its place, or the number of blocks with main's peak.
-#[derive(Drop)]
+#[derive(Clone, Copy)]
 pub enum Judgement {
     Refused(u32, u32),
     Accepted(u32, u32),
@@ -105,7 +106,7 @@ pub enum Judgement {
 
 // The four numbers of a judgement.
 #[repr(C)]
-#[derive(Drop)]
+#[derive(Clone, Copy)]
 pub struct Judged {
     pub code: u32,
     pub place: u32,
@@ -115,14 +116,14 @@ pub struct Judged {
 
 // What starting, stepping and listing answer.
 #[repr(C)]
-#[derive(Drop)]
+#[derive(Clone, Copy)]
 pub struct Answer {
     pub code: u32,
     pub place: u32,
 }
 
 // Where a process stands: a label and a stage.
-#[derive(Drop)]
+#[derive(Clone, Copy)]
 pub struct Place {
     pub label: u32,
     pub stage: u32,
@@ -139,7 +140,7 @@ impl Place {
 
 // One row of the list.
 #[repr(C)]
-#[derive(Drop)]
+#[derive(Clone, Copy)]
 pub struct Row {
     pub identifier: u32,
     pub forward: u32,

@@ -1,4 +1,6 @@
 // Starting a machine on its words, for any image: the codes of judging first, then 16.
+#![tactic(auto)]
+
 ghost use Rattle.std.specs.Prelude.{◌≡◌};
 ghost use Rattle.rules.specs.Words.{start as Words·start};
 ghost use Rattle.runtime.specs.Outcome.{outcome_of};

@@ -1,4 +1,6 @@
 // Code 9: a block names, elsewhere than in V or P, a variable that some V or P of the image names.
+#![tactic(auto)]
+
 ghost use Rattle.std.specs.Prelude.{◌&&◌, false, ◌≡◌, ℕ, ◌≤◌, length, take, get_or, eqb};
 ghost use Rattle.rules.specs.Base.{lowest, some_below};
 ghost use Rattle.rules.specs.Format.{most_blocks, variables, labels};

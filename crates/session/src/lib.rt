@@ -1,5 +1,7 @@
 // The session program's work on slices: what it prints at its beginning and at each command, as rules' `session` has it. A line is
 // put at the front of a lent slice of 64 bytes, of which none takes more than 44.
+#![tactic(auto)]
+
 mod line;
 
 ghost use Rattle.std.specs.Prelude.{ℕ, ◌≤◌, ◌≡◌, List, length, take};

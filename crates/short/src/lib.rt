@@ -1,4 +1,6 @@
 // Short lists of labels: those of one entry, of one exit, of one call.
+#![tactic(auto)]
+
 ghost use Rattle.std.specs.Prelude.{[], ◌∷◌, ◌≡◌, get_or};
 ghost use Rattle.rules.specs.Format.{named};
 ghost use Rattle.rules.specs.Labels.{entry_labels, exit_labels, begin_labels, end_labels, called_by};

@@ -1,4 +1,6 @@
 // A row of the machine's words.
+#![tactic(auto)]
+
 ghost use Rattle.std.specs.Prelude.{◌≡◌, ◌<◌, length};
 ghost use Rattle.step.specs.Ready.{process_at, here_at};
 

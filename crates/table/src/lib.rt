@@ -1,4 +1,6 @@
 // The list by value, document 01, "The list": its answer, and one row a live process. The C boundary writes the lent rows from it.
+#![tactic(auto)]
+
 ghost use Rattle.std.specs.Prelude.{◌≡◌, ◌<◌, get_or, replicate};
 ghost use Rattle.rules.specs.Words.{refuse, accept};
 ghost use Rattle.rules.specs.List.{zero_row};

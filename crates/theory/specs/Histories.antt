@@ -6,7 +6,7 @@ use Rattle.theory.specs.Cause.{Feet, Origin, step, Base, fresh, push, after, Any
 use Rattle.theory.specs.Tests.{bool_cases, eqb-other, eqb_same}
 
 module _ (Φ : Feet) where
-  open Φ use {Entry, process, reading, writing, Written-Read}
+  open Φ use {Entry, process, reading, writing, written_read}
 
   -- two steps that share no resource which one of them writes
   abbrev pub Indep : Entry → Entry → Type 0

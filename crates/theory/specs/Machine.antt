@@ -53,10 +53,10 @@ module _ {Place Memory Value : Type 0} {look : Memory → ℕ → Value} {readin
             );
         inverse = λ s s' e ok h. inv s s' e ok (fired (forward Π) s e.process e s' h);
         diamond =
-            λ s s₁ s₂ e f ok n i he hf. diamond-law look reading writing Π.Written-Read Π.same_look (forward Π) (back Π) (forward-framed Π)
+            λ s s₁ s₂ e f ok n i he hf. diamond-law look reading writing Π.written_read Π.same_look (forward Π) (back Π) (forward-framed Π)
             (back-framed Π) (apart-forward Π) s s₁ s₂ e f n i he hf;
         square =
-            λ s₁ s₂ s₃ e f ok n i hf he. square-law look reading writing Π.Written-Read Π.same_look (forward Π) (back Π) (forward-framed Π)
+            λ s₁ s₂ s₃ e f ok n i hf he. square-law look reading writing Π.written_read Π.same_look (forward Π) (back Π) (forward-framed Π)
             (back-framed Π) (apart-mixed₁ Π) (apart-mixed₂ Π) s₁ s₂ s₃ e f n i hf he;
         mark_backward = λ s s' e h. mb s s' e (fired (back Π) s e.process e s' h);
         mark_onward = λ s s' e h. mf s s' e (fired (forward Π) s e.process e s' h);

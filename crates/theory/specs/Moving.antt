@@ -19,14 +19,14 @@ choice_apart false true x y z n = refl
 choice_apart false false x y z n = refl
 
 module _ (Φ : Feet) where
-  open Φ use {Entry, process, reading, writing, Written-Read}
+  open Φ use {Entry, process, reading, writing, written_read}
 
   -- while r's last writer is s, the first entry that touches r has an edge from s: where no edge of a process other than p comes from s, no entry of u touches r
   pub unread-unwritten : (e : Entry) (r : ℕ) → reading e r ≡ false → writing e r ≡ false
   unread-unwritten e r h = go (bool_cases (writing e r))
     where
       go : (writing e r ≡ true) ⊎ (writing e r ≡ false) → writing e r ≡ false
-      go (inl t) = absurd (true_false (Written-Read e r t) h)
+      go (inl t) = absurd (true_false (written_read e r t) h)
       go (inr f) = f
 
   pub untouched :
@@ -89,7 +89,7 @@ module _ (Φ : Feet) where
           rw
           (eqb-other (process e) (process f) (λ x. n (sym x)), eqb-other (process f) (process e) n)
           (choice_apart (writing e r) (writing f r) (step (process e) (G.count (process e))) (step (process f) (G.count (process f))) (G.last r)
-          (λ a b. true_false (Written-Read f r b) (i.0 r a)))
+          (λ a b. true_false (written_read f r b) (i.0 r a)))
 
   -- what is said of an entry stays true where an independent step of another process comes before it, or no longer does
   abbrev Stable : (Base → Entry → Type 0) → Type 0

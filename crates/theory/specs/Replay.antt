@@ -9,7 +9,7 @@ use Rattle.theory.specs.Histories.{Apart, Indep, NoneBy, Counted, split, counted
 use Rattle.theory.specs.Moving.{apart-front, apart_none, same-pop}
 
 module _ (Φ : Feet) where
-  open Φ use {Entry, process, reading, writing, Written-Read}
+  open Φ use {Entry, process, reading, writing, written_read}
 
   -- onward and backward make one step of a process, on the memory and the rows alone; each says its entry
   module _ {C : Type 0} (onward backward : C → ℕ → Option (Entry × C)) where

@@ -80,7 +80,7 @@ module _ {Place Memory Value : Type 0} {look : Memory → ℕ → Value} {readin
   C = State Place Memory
 
   abbrev pub footprints : Feet
-  footprints = feet reading writing Π.Written-Read
+  footprints = feet reading writing Π.written_read
 
   -- the shapes of a forward step
   pub record Leaf (ρ : Option Place) (k : Kids) (m : Memory) (o : Outcome Place Memory) : Type 0 where

@@ -8,7 +8,7 @@ use Rattle.theory.specs.Histories.{Apart, NoneBy, NoneReads, NoneWrites, Counted
 use Rattle.theory.specs.Moving.{apart_none, apart-unread, apart-unwritten, apart_of, edge-mid, unread-unwritten, untouched}
 
 module _ (Φ : Feet) where
-  open Φ use {Entry, process, reading, writing, Written-Read}
+  open Φ use {Entry, process, reading, writing, written_read}
 
   -- the graph lets the newest step of a process go back just when every later step is of another process and independent of it
   none-by_count : (G : Base) (w : List Entry) (p : ℕ) → (after Φ G w).count p ≡ G.count p → NoneBy Φ p w

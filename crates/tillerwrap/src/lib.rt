@@ -1,5 +1,6 @@
 // The C boundary: what include/tillerwrap.h declares. Each promise is that of the function below it, on numbers and bytes: a slice
 // of words is bytes, four a word, low byte first.
+#![tactic(auto)]
 
 ghost use Rattle.std.specs.Prelude.{◌≡◌, List, ℕ, length, replicate};
 ghost use Rattle.rules.specs.Judge.{judgement, numbers};

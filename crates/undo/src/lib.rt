@@ -1,5 +1,7 @@
 // The plan of an undo, document 01: 21 at stage begin, 20, 27, then of a fork where the process has children, else of a merge or of
 // a leaf's step of the block whose exit holds its place.
+#![tactic(auto)]
+
 ghost use Rattle.std.specs.Prelude.{◌≡◌, List, ℕ, ◌<◌, length};
 ghost use Rattle.rules.specs.Labels.{block_of};
 ghost use Rattle.rules.specs.Machine.{view, children};

@@ -1,5 +1,7 @@
 // The operators on words, each equal to its definition in rules: + and - wrap, ^ works on the bits, comparisons are signed.
 // That these are the signed 32-bit operators of document 01 is the theorem `signed-values`, in proofs/.
+#![tactic(auto)]
+
 ghost use Rattle.std.specs.Prelude.{◌≡◌};
 ghost use Rattle.rules.specs.Value.{plus, minus, truth, flag, less, at_most, negated, applied, changed};
 ghost use Rattle.value.specs.Biased.{biased_of};
