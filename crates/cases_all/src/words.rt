@@ -32,7 +32,7 @@ pub fn word(bytes: &[u8], i: usize) -> u32 {
     if bytes.len() - 4 < i {
         return 0;
     }
-    bytes::word_at(bytes, i)
+    word_bytes::word_at(bytes, i)
 }
 
 // An index moved on; one that no script has stays.

@@ -58,7 +58,7 @@ pub fn begin(image: &[u8], memory: &[u8], words: &mut [u32], line: &mut [u8]) ->
 {
     let mut machine = [0u8; 34696];
     let answer = tillerwrap::tillerwrap_start(image, memory, &mut machine);
-    bytes::words_of(&machine, words);
+    word_bytes::words_of(&machine, words);
     let code = answer.code;
     if code == 0 {
         return Printed {
@@ -78,7 +78,7 @@ fn ask(image: &[u8], words: &mut [u32], way: u32, body: &[u8], line: &mut [u8]) 
     requires { (length words.old ≡ 8674) × (length line.old ≡ 64) × (length body.now ≡ 4) }
     ensures { Shows (asked image.now words.old way body.now) result words.new line.new }
 {
-    let process = bytes::word_at(body, 0);
+    let process = word_bytes::word_at(body, 0);
     let answer = runtime::stepping::step(image, words, process, way);
     let length = step_line(words, way, process, answer.code, line);
     Printed { length, more: true }

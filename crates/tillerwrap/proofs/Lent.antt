@@ -16,7 +16,7 @@ use Rattle.rules.specs.declared.Judgement.{Judgement}
 use Rattle.laws.specs.Fit.{Bytes}
 use Rattle.machine.specs.Outcome.{outcome}
 use Rattle.runtime.specs.Outcome.{outcome_of}
-use Rattle.bytes.proofs.Laws.{length-words_of}
+use Rattle.word_bytes.proofs.Laws.{length-words_of}
 use Rattle.laws.proofs.Bytes.{bytes-again}
 use Rattle.theorems.specs.Refusals.{refusal_keeps}
 

@@ -70,10 +70,10 @@ fn start_bytes(first: &[u8], machine: &mut [u8]) -> Answer
         return Answer { code: 16, place: 0 };
     }
     let mut memory = [0u32; 288];
-    bytes::words_of(first, &mut memory);
+    word_bytes::words_of(first, &mut memory);
     let mut words = [0u32; 8674];
     let code = machine::start::start(&memory, &mut words);
-    bytes::bytes_of(&words, machine);
+    word_bytes::bytes_of(&words, machine);
     Answer { code, place: 0 }
 }
 
@@ -102,12 +102,12 @@ pub extern "C" fn tillerwrap_step(
         return wrong_length(image);
     }
     let mut words = [0u32; 8674];
-    bytes::words_of(machine, &mut words);
+    word_bytes::words_of(machine, &mut words);
     let answer = runtime::stepping::step(image, &mut words, process, direction);
     if answer.code != 0 {
         return answer;
     }
-    bytes::bytes_of(&words, machine);
+    word_bytes::bytes_of(&words, machine);
     answer
 }
 
@@ -130,7 +130,7 @@ fn listing_of(image: &[u8], machine: &[u8], n: usize) -> Listing
         return listing_of_16(image);
     }
     let mut words = [0u32; 8674];
-    bytes::words_of(machine, &mut words);
+    word_bytes::words_of(machine, &mut words);
     runtime::readiness::ready(image, &words)
 }
 
