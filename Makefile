@@ -6,6 +6,7 @@ COMPARE := docs/src/compare
 CARGO = CARGO_TARGET_DIR=$(CURDIR)/target/$(notdir $(1)) cargo
 INDEPENDENT_WALK := $(CURDIR)/target/independent/release/walk
 ARCHIVE := target/staticlib/libtillerwrap.a
+ARCHIVE_CRATE := crates/tillerwrap_c
 STRICT := -Wall -Wextra -Werror -pedantic -Iinclude
 CLIENT := docs/src/client/client.c
 
@@ -40,11 +41,12 @@ compiler:
 	command -v $(firstword $(CC64)) > /dev/null || apt-get install -qq -y gcc-x86-64-linux-gnu libc6-dev-amd64-cross > /dev/null
 
 # Targets that are made at the same time call rt one after the other.
-RT := flock Makefile rt
+RT := flock $(CURDIR)/Makefile rt
 
-# The library for C and Rust: rt proves what is not proved yet, then compiles.
+# The library for C: rt proves what is not proved yet, then compiles.
 archive:
-	$(RT) staticlib tillerwrap > /dev/null
+	cd $(ARCHIVE_CRATE) && $(RT) lib > /dev/null
+	mkdir -p $(dir $(ARCHIVE)) && cp $(ARCHIVE_CRATE)/out/libtillerwrap_c.a $(ARCHIVE)
 
 # The header in C and in C++, and a client of all of it under the sanitizers.
 client-test: archive compiler

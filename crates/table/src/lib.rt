@@ -9,7 +9,7 @@ ghost use Rattle.table.specs.Listed.{rows_in, shown};
 use rules::{Answer, Row};
 
 // The answer, and where its code is 0 one number a live process in each array, the rest 0.
-#[derive(Drop)]
+#[derive(Clone, Copy)]
 pub struct Listing {
     pub code: u32,
     pub place: u32,

@@ -42,8 +42,7 @@ fn numbers_of(j: Judgement) -> Judged
 }
 
 // Judges any bytes.
-#[unsafe(no_mangle)]
-pub extern "C" fn tillerwrap_judge(image: &[u8]) -> Judged
+pub fn tillerwrap_judge(image: &[u8]) -> Judged
     ensures { result ≡ numbers (judgement image.now) }
 {
     numbers_of(judge::judge(image))
@@ -78,8 +77,7 @@ fn start_bytes(first: &[u8], machine: &mut [u8]) -> Answer
 }
 
 // Starts a machine: the lent bytes are all written, or on a refusal left as they are.
-#[unsafe(no_mangle)]
-pub extern "C" fn tillerwrap_start(image: &[u8], first: &[u8], machine: &mut [u8]) -> Answer
+pub fn tillerwrap_start(image: &[u8], first: &[u8], machine: &mut [u8]) -> Answer
     ensures { outcome_of result machine.new ≡ start_bytes image.now first.now machine.old }
 {
     match judge::judge(image) {
@@ -89,8 +87,7 @@ pub extern "C" fn tillerwrap_start(image: &[u8], first: &[u8], machine: &mut [u8
 }
 
 // One forward step or one undo of a process: the lent bytes are those of the machine after it, or on a refusal left as they are.
-#[unsafe(no_mangle)]
-pub extern "C" fn tillerwrap_step(
+pub fn tillerwrap_step(
     image: &[u8],
     process: u32,
     direction: u32,
@@ -136,8 +133,7 @@ fn listing_of(image: &[u8], machine: &[u8], n: usize) -> Listing
 
 // The list: where the code is 0 all 64 rows are written, a row a live process and the rest zero; else they stay as they are. A slice
 // of row structs: proved by hand.
-#[unsafe(no_mangle)]
-pub extern "C" fn tillerwrap_list(image: &[u8], machine: &[u8], rows: &mut [Row]) -> Answer
+pub fn tillerwrap_list(image: &[u8], machine: &[u8], rows: &mut [Row]) -> Answer
     ensures { outcome_of result rows.new ≡ list_bytes image.now machine.now rows.old }
 {
     let listing = listing_of(image, machine, rows.len());

@@ -3,20 +3,23 @@
 ghost use Rattle.std.specs.Prelude.{◌≡◌, length};
 ghost use Rattle.io.specs.Counts.{IsPrefixLen};
 
-use libc::{STDIN_FILENO, STDOUT_FILENO};
+use std::fs::File;
+use std::os::fd::AsRawFd;
+
+// Where commands come from, and where lines go.
+const STANDARD_INPUT: i32 = 0;
+
+const STANDARD_OUTPUT: i32 = 1;
 
 // Puts a file's bytes at the front of a buffer that is one byte longer than the file may be, and answers how many there are. A
 // file that can't be opened or read counts as empty.
-fn read_file(name: &[u8], buffer: &mut [u8]) -> usize
+fn read_file(rt: &HostRuntime, name: &str, buffer: &mut [u8]) -> usize
     ensures { IsPrefixLen result buffer.new }
 {
-    let file = os::open_read(name);
-    if file < 0 {
-        return 0;
+    match File::open(rt, name) {
+        Ok(file) => io::read_full(file.as_raw_fd(), buffer),
+        Err(_) => 0,
     }
-    let n = io::read_full(file, buffer);
-    libc::close(file);
-    n
 }
 
 // Reads the body of a command of a known kind. An unknown kind has none, so that its line does not wait for more.
@@ -24,10 +27,10 @@ fn read_body(kind: u8, body: &mut [u8]) -> usize
     ensures { IsPrefixLen result body.new }
 {
     if kind == 1 {
-        return io::read_full(STDIN_FILENO, body);
+        return io::read_full(STANDARD_INPUT, body);
     }
     if kind == 2 {
-        return io::read_full(STDIN_FILENO, body);
+        return io::read_full(STANDARD_INPUT, body);
     }
     0
 }
@@ -39,7 +42,7 @@ fn begin(image: &[u8], memory: &[u8], words: &mut [u32]) -> bool
     let mut line = [0u8; 64];
     let printed = session::begin(image, memory, words, &mut line);
     let length = printed.length;
-    io::write_all(STDOUT_FILENO, &line[..length]);
+    io::write_all(STANDARD_OUTPUT, &line[..length]);
     printed.more
 }
 
@@ -48,7 +51,7 @@ fn turn(image: &[u8], words: &mut [u32]) -> bool
     requires { length words.old ≡ 8674 }
 {
     let mut kind = [0u8; 1];
-    if io::read_full(STDIN_FILENO, &mut kind) == 0 {
+    if io::read_full(STANDARD_INPUT, &mut kind) == 0 {
         return false;
     }
     let mut body = [0u8; 4];
@@ -56,7 +59,7 @@ fn turn(image: &[u8], words: &mut [u32]) -> bool
     let mut line = [0u8; 64];
     let printed = session::turn(image, words, kind[0], &body[..n], &mut line);
     let length = printed.length;
-    if !io::write_all(STDOUT_FILENO, &line[..length]) {
+    if !io::write_all(STANDARD_OUTPUT, &line[..length]) {
         return false;
     }
     printed.more
@@ -73,11 +76,11 @@ fn run(image: &[u8], words: &mut [u32])
 }
 
 // The whole session. What it writes no contract can speak of; the texts are those that the crate `session` proves.
-pub fn play() {
+pub fn play(rt: &HostRuntime) {
     let mut image = [0u8; 4097];
-    let m = read_file(b"prog.cril", &mut image);
+    let m = read_file(rt, "prog.cril", &mut image);
     let mut memory = [0u8; 1153];
-    let n = read_file(b"first.mem", &mut memory);
+    let n = read_file(rt, "first.mem", &mut memory);
     let mut words = [0u32; 8674];
     if begin(&image[..m], &memory[..n], &mut words) {
         run(&image[..m], &mut words);

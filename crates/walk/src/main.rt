@@ -3,6 +3,6 @@
 
 mod console;
 
-fn main() {
-    console::play();
+fn main(rt: HostRuntime) {
+    console::play(&rt);
 }
