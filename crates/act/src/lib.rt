@@ -12,13 +12,14 @@ use evaluate::{Located, Valued, Writes};
 use rules::{Change, Expression, Instruction, Target};
 
 // What acting would write, or the code of a refusal: 23, 24 or 25.
-#[derive(Drop)]
+#[derive(Clone, Copy)]
 pub enum Acted {
     Wrote(Writes),
     Refused(u32),
 }
 
 // An update of a place, by a value.
+#[tactic(auto, unfolding(rules::specs::Leaf::after, evaluate::specs::Shown::valued_shown, evaluate::specs::Shown::written, crate::specs::Acts::acted_shown))]
 fn update_at(memory: &[u32], change: Change, at: usize, v: Valued) -> Acted
     requires { (length memory.now ≡ memory_words) × (at < memory_words) }
     ensures { Acts memory.now result (after (valued_shown v) (updated_at memory.now change at)) }
@@ -45,6 +46,7 @@ fn update(memory: &[u32], change: Change, a: Target, e: Expression) -> Acted
 }
 
 // An exchange of what stands at a place with what stands at another.
+#[tactic(auto, unfolding(rules::specs::Leaf::after, evaluate::specs::Shown::located_shown, evaluate::specs::Shown::written, crate::specs::Acts::acted_shown))]
 fn exchange_at(memory: &[u32], at: usize, to: Located) -> Acted
     requires { (length memory.now ≡ memory_words) × (at < memory_words) × LocatedFit to }
     ensures { Acts memory.now result (after (located_shown to) (exchanged_at memory.now at)) }
@@ -77,6 +79,7 @@ fn semaphore_step(memory: &[u32], x: u8, needs: u32, leaves: u32) -> Acted
     Acted::Refused(24)
 }
 
+#[tactic(auto, unfolding(rules::specs::Base::pick, rules::specs::Leaf::after, evaluate::specs::Shown::valued_shown, evaluate::specs::Shown::written, crate::specs::Acts::acted_shown))]
 fn assertion(v: Valued) -> Acted
     ensures { (memory : List ℕ) → Acts memory result (after (valued_shown v) (asserted memory)) }
 {

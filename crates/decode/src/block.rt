@@ -1,4 +1,6 @@
 // A block: an entry, a body and an exit, each read by the cursor that the one before it handed back.
+#![tactic(auto, unfolding(rules::specs::Base::pick, rules::specs::Read::next, rules::specs::Read::exit_at, rules::specs::Read::block_at))]
+
 ghost use Rattle.std.specs.Prelude.{◌≡◌};
 ghost use Rattle.rules.specs.Read.{got, next, is_call, instruction_at, exit_at, block_at};
 ghost use Rattle.image.specs.Shown.{entry_shown, instruction_shown, exit_shown};

@@ -17,7 +17,7 @@ const FIRST_CELL: usize = 32;
 const CELLS: u32 = 256;
 
 // At most two writes, each a place and the value that it is to hold.
-#[derive(Drop)]
+#[derive(Clone, Copy)]
 pub enum Writes {
     Nothing,
     One(usize, u32),
@@ -25,14 +25,14 @@ pub enum Writes {
 }
 
 // A place in the memory, or the refusal 25.
-#[derive(Drop)]
+#[derive(Clone, Copy)]
 pub enum Located {
     At(usize),
     Outside,
 }
 
 // A value, or the refusal 25.
-#[derive(Drop)]
+#[derive(Clone, Copy)]
 pub enum Valued {
     Value(u32),
     Outside,
@@ -76,6 +76,7 @@ fn cell_place(memory: &[u32], writes: Writes, x: u8) -> Located
 }
 
 // Where an update or an exchange writes; no writes are pending then.
+#[tactic(auto, unfolding(rules::specs::Leaf::target_place, crate::specs::Shown::located_shown, crate::specs::Shown::written))]
 pub fn target_place(memory: &[u32], a: Target) -> Located
     requires { (length memory.now ≡ memory_words) × TargetFit a }
     ensures { located_shown result ≡ target_place memory.now a }
@@ -87,6 +88,7 @@ pub fn target_place(memory: &[u32], a: Target) -> Located
 }
 
 // The value at a place that was found.
+#[tactic(auto, unfolding(rules::specs::Leaf::after, crate::specs::Shown::located_shown, crate::specs::Shown::valued_shown))]
 fn located_value(memory: &[u32], writes: Writes, place: Located) -> Valued
     requires { (length memory.now ≡ memory_words) × LocatedFit place }
     ensures { valued_shown result ≡ after (located_shown place) (λ at. made (get_or (written writes memory.now) at 0)) }
@@ -97,6 +99,7 @@ fn located_value(memory: &[u32], writes: Writes, place: Located) -> Valued
     }
 }
 
+#[tactic(auto, unfolding(rules::specs::Leaf::operand_value, crate::specs::Shown::valued_shown))]
 fn operand(memory: &[u32], writes: Writes, a: Operand) -> Valued
     requires { (length memory.now ≡ memory_words) × OperandFit a }
     ensures { valued_shown result ≡ operand_value (written writes memory.now) a }
@@ -108,6 +111,7 @@ fn operand(memory: &[u32], writes: Writes, a: Operand) -> Valued
     }
 }
 
+#[tactic(auto, unfolding(rules::specs::Leaf::after, crate::specs::Shown::valued_shown))]
 fn negation(v: Valued) -> Valued
     ensures { valued_shown result ≡ after (valued_shown v) (λ x. made (negated x)) }
 {
@@ -118,6 +122,7 @@ fn negation(v: Valued) -> Valued
 }
 
 // Both sides have been evaluated; the first met refusal is the first side's.
+#[tactic(auto, unfolding(rules::specs::Leaf::after, crate::specs::Shown::valued_shown))]
 fn application(operator: Operator, v: Valued, w: Valued) -> Valued
     ensures { valued_shown result ≡ after (valued_shown v) (λ x. after (valued_shown w) (λ y. made (applied operator x y))) }
 {
@@ -130,6 +135,7 @@ fn application(operator: Operator, v: Valued, w: Valued) -> Valued
     }
 }
 
+#[tactic(auto, unfolding(rules::specs::Leaf::expression_value))]
 pub fn expression(memory: &[u32], writes: Writes, e: Expression) -> Valued
     requires { (length memory.now ≡ memory_words) × ExpressionFit e }
     ensures { valued_shown result ≡ expression_value (written writes memory.now) e }

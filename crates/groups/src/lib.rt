@@ -30,6 +30,7 @@ fn alone() -> [u16; NODES]
     nodes
 }
 
+#[tactic(auto, unfolding(rules::specs::Base::pick))]
 fn new_name(old: u16, new: u16, a: u16) -> u16
     ensures { result ≡ renamed old new a }
 {

@@ -1,4 +1,6 @@
 // Calls: kinds 51 to 58, of 1 to 8 labels, after an entry of kind 20.
+#![tactic(auto, unfolding(rules::specs::Base::pick, rules::specs::Read::whole, rules::specs::Read::name_at, rules::specs::Read::names_at, rules::specs::Read::call_at))]
+
 ghost use Rattle.std.specs.Prelude.{◌≡◌, ◌&&◌, ◌+◌, ◌-◌, ◌<◌, length, leb};
 ghost use Rattle.rules.specs.Base.{pick};
 ghost use Rattle.rules.specs.Read.{got, fault, whole, name_at, names_at, call_at};

@@ -1,4 +1,6 @@
 // Entries: `l <-`, `l1;l2 <- e`, `begin l`.
+#![tactic(auto, unfolding(rules::specs::Read::next))]
+
 ghost use Rattle.std.specs.Prelude.{◌≡◌};
 ghost use Rattle.rules.specs.Read.{got, next, expression_at, entry_at};
 ghost use Rattle.image.specs.Shown.{byte_shown, labels_shown, expression_shown, entry_shown};
@@ -54,6 +56,7 @@ fn condition(s: &[u8], b: LabelsRead) -> EntryRead
 }
 
 impl Cursor {
+    #[tactic(auto, unfolding(rules::specs::Base::pick, rules::specs::Read::follows, rules::specs::Read::entry_at))]
     pub fn entry(self, s: &[u8]) -> EntryRead
         ensures { entry_shown result ≡ entry_at s.now self.at }
     {

@@ -1,4 +1,6 @@
 // Exits: `-> l`, `e -> l1;l2`, `end l`. After a call an exit other than `-> l` is refused at its own record (8).
+#![tactic(auto, unfolding(rules::specs::Read::next))]
+
 ghost use Rattle.std.specs.Prelude.{◌≡◌};
 ghost use Rattle.rules.specs.Read.{got, fault, next, expression_at, leaf_exit_at, call_exit_at};
 ghost use Rattle.image.specs.Shown.{byte_shown, labels_shown, expression_shown, exit_shown};
@@ -74,6 +76,7 @@ fn condition_after_call(place: usize, b: LabelsRead) -> ExitRead
 
 impl Cursor {
     // The exit of a block whose body is no call.
+    #[tactic(auto, unfolding(rules::specs::Base::pick, rules::specs::Read::follows, rules::specs::Read::leaf_exit_at))]
     pub fn leaf_exit(self, s: &[u8]) -> ExitRead
         ensures { exit_shown result ≡ leaf_exit_at s.now self.at }
     {
@@ -94,6 +97,7 @@ impl Cursor {
     }
 
     // The exit of a block whose body is a call.
+    #[tactic(auto, unfolding(rules::specs::Base::pick, rules::specs::Read::follows, rules::specs::Read::call_exit_at))]
     pub fn call_exit(self, s: &[u8]) -> ExitRead
         ensures { exit_shown result ≡ call_exit_at s.now self.at }
     {

@@ -1,4 +1,6 @@
 // Expressions: one operand plain, a not, or one of eleven operators over two operands.
+#![tactic(auto, unfolding(rules::specs::Read::next))]
+
 ghost use Rattle.std.specs.Prelude.{◌≡◌};
 ghost use Rattle.rules.specs.Format.{operator_of};
 ghost use Rattle.rules.specs.Read.{got, next, operand_at, expression_at};
@@ -20,6 +22,7 @@ pub enum ExpressionRead {
     Bad(Fault),
 }
 
+#[tactic(auto, unfolding(rules::specs::Base::pick, rules::specs::Format::operator_of))]
 fn operator_of(kind: u8) -> OperatorRead
     ensures { operator_shown result ≡ operator_of kind }
 {
@@ -79,6 +82,7 @@ fn first_of_two(s: &[u8], operator: Operator, o: OperandRead) -> ExpressionRead
 }
 
 impl Cursor {
+    #[tactic(auto, unfolding(rules::specs::Base::pick, rules::specs::Read::follows, rules::specs::Read::two_at, rules::specs::Read::expression_at))]
     pub fn expression(self, s: &[u8]) -> ExpressionRead
         ensures { expression_shown result ≡ expression_at s.now self.at }
     {

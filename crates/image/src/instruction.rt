@@ -1,4 +1,6 @@
 // Instructions: updates, exchanges, V, P, assert, skip; calls stand in `call`.
+#![tactic(auto, unfolding(rules::specs::Base::pick, rules::specs::Read::next))]
+
 ghost use Rattle.std.specs.Prelude.{◌≡◌};
 ghost use Rattle.rules.specs.Base.{pick};
 ghost use Rattle.rules.specs.Read.{got, fault, next, target_at, expression_at, updates_itself, exchanges_itself, instruction_at};
@@ -101,6 +103,7 @@ fn assertion(x: ExpressionRead) -> InstructionRead
 
 impl Cursor {
     // The body of the block whose entry is `entry`.
+    #[tactic(auto, unfolding(rules::specs::Base::pick, rules::specs::Read::follows, rules::specs::Read::update_at, rules::specs::Read::exchange_at, rules::specs::Read::instruction_at))]
     pub fn instruction(self, s: &[u8], entry: Entry) -> InstructionRead
         ensures { instruction_shown result ≡ instruction_at s.now self.at entry }
     {

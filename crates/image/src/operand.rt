@@ -1,4 +1,6 @@
 // Operands, and the left operands of updates and exchanges.
+#![tactic(auto, unfolding(rules::specs::Read::next))]
+
 ghost use Rattle.std.specs.Prelude.{◌≡◌, ◌+◌, ◌≤◌, length};
 ghost use Rattle.rules.specs.Format.{word_at};
 ghost use Rattle.rules.specs.Read.{got, next, constant_at, operand_at, target_at};
@@ -66,6 +68,7 @@ fn cell_target(b: ByteRead) -> TargetRead
 }
 
 impl Cursor {
+    #[tactic(auto, unfolding(rules::specs::Base::pick, rules::specs::Read::whole, rules::specs::Read::constant_at))]
     fn constant(self, s: &[u8]) -> OperandRead
         ensures { operand_shown result ≡ constant_at s.now self.at }
     {
@@ -76,6 +79,7 @@ impl Cursor {
         OperandRead::Got(Operand::Constant(word_at(s, at + 1)), Cursor { at: at + 5 })
     }
 
+    #[tactic(auto, unfolding(rules::specs::Base::pick, rules::specs::Read::follows, rules::specs::Read::operand_at))]
     pub fn operand(self, s: &[u8]) -> OperandRead
         ensures { operand_shown result ≡ operand_at s.now self.at }
     {
@@ -96,6 +100,7 @@ impl Cursor {
     }
 
     // A left operand is 02 or 03.
+    #[tactic(auto, unfolding(rules::specs::Base::pick, rules::specs::Read::follows, rules::specs::Read::target_at))]
     pub fn left_operand(self, s: &[u8]) -> TargetRead
         ensures { target_shown result ≡ target_at s.now self.at }
     {

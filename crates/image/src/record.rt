@@ -1,4 +1,6 @@
 // Records whose body is a label, two labels or a variable.
+#![tactic(auto, unfolding(rules::specs::Base::pick, rules::specs::Read::whole, rules::specs::Read::label_at, rules::specs::Read::labels_at, rules::specs::Read::variable_at))]
+
 ghost use Rattle.std.specs.Prelude.{◌≡◌, ◌-◌, length};
 ghost use Rattle.rules.specs.Read.{label_at, labels_at, variable_at};
 ghost use Rattle.image.specs.Shown.{byte_shown, labels_shown};

@@ -11,14 +11,14 @@ use evaluate::{Valued, Writes};
 use rules::{Entry, Exit, Place};
 
 // A place, or the refusal 25.
-#[derive(Drop)]
+#[derive(Clone, Copy)]
 pub enum Placed {
     At(Place),
     Outside,
 }
 
 // A side of a block. A step comes in by the one and leaves by the other: an undo comes in by the exit.
-#[derive(Drop)]
+#[derive(Clone, Copy)]
 pub enum Side {
     Entry(Entry),
     Exit(Exit),
@@ -34,6 +34,7 @@ fn place_of(label: u8, stage: u32) -> Place
 }
 
 // The first label where the condition is true, else the second.
+#[tactic(auto, unfolding(rules::specs::Base::pick, rules::specs::Leaf::after, rules::specs::Leaf::chosen, evaluate::specs::Shown::valued_shown, crate::specs::Shown::placed_shown))]
 fn chosen(first: u8, second: u8, condition: Valued) -> Placed
     ensures { placed_shown result ≡ after (valued_shown condition) (λ v. made (chosen first second v)) }
 {
@@ -48,6 +49,7 @@ fn chosen(first: u8, second: u8, condition: Valued) -> Placed
     }
 }
 
+#[tactic(auto, unfolding(rules::specs::Leaf::entry_place, crate::specs::Shown::placed_shown))]
 fn entry_place(memory: &[u32], writes: Writes, entry: Entry) -> Placed
     requires { (length memory.now ≡ memory_words) × EntryFit entry }
     ensures { placed_shown result ≡ entry_place (written writes memory.now) entry }
@@ -63,6 +65,7 @@ fn entry_place(memory: &[u32], writes: Writes, entry: Entry) -> Placed
     }
 }
 
+#[tactic(auto, unfolding(rules::specs::Leaf::exit_place, crate::specs::Shown::placed_shown))]
 fn exit_place(memory: &[u32], writes: Writes, exit: Exit) -> Placed
     requires { (length memory.now ≡ memory_words) × ExitFit exit }
     ensures { placed_shown result ≡ exit_place (written writes memory.now) exit }
@@ -78,6 +81,7 @@ fn exit_place(memory: &[u32], writes: Writes, exit: Exit) -> Placed
     }
 }
 
+#[tactic(auto, unfolding(crate::specs::Side::side_place))]
 pub fn side_place(memory: &[u32], writes: Writes, side: Side) -> Placed
     requires { (length memory.now ≡ memory_words) × SideFit side }
     ensures { placed_shown result ≡ side_place (written writes memory.now) side }
@@ -89,6 +93,7 @@ pub fn side_place(memory: &[u32], writes: Writes, side: Side) -> Placed
 }
 
 // The place on a machine's words, with nothing pending.
+#[tactic(auto, unfolding(rules::specs::Machine::view, evaluate::specs::Shown::written))]
 pub fn place_on(m: &[u32], side: Side) -> Placed
     requires { (length m.now ≡ machine_words) × SideFit side }
     ensures { placed_shown result ≡ side_place (view m.now).memory side }

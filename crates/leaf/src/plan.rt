@@ -15,7 +15,7 @@ use evaluate::Writes;
 use rules::{Block, Instruction, Place};
 
 // Where the process then stands and what is written, or the code of a refusal: 22 to 25.
-#[derive(Drop)]
+#[derive(Clone, Copy)]
 pub enum LeafPlan {
     Moves(Place, Writes),
     Refused(u32),
@@ -31,6 +31,7 @@ fn same_place(q: Place, here: Place) -> bool
 }
 
 // The move to the place that the last side gave, or its refusal.
+#[tactic(auto, unfolding(rules::specs::Leaf::after, crate::specs::Shown::placed_shown, crate::specs::Shown::plan_shown))]
 fn moves(writes: Writes, next: Placed) -> LeafPlan
     requires { WritesFit writes }
     ensures { (memory : List ℕ) → Plans memory result (leading (placed_shown next) (written writes memory)) }

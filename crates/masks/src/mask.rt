@@ -1,4 +1,6 @@
 // Masks of resources: bit x is variable x, bit 32 the heap. Each function's mask has just the bits of what rules' Names says.
+#![tactic(auto, using(crate::proofs::Bits::mask_none, crate::proofs::Bits::mask_single))]
+
 ghost use Rattle.std.specs.Prelude.{◌<◌};
 ghost use Rattle.rules.specs.Names.{operand_names, target_names, expression_names, entry_names, exit_names, instruction_writes, block_reads, block_writes};
 ghost use Rattle.laws.specs.Fit.{OperandFit, TargetFit, ExpressionFit, EntryFit, ExitFit, InstructionFit, BlockFit};
@@ -134,6 +136,7 @@ pub fn reads(b: Block) -> u64
 }
 
 // What a block writes.
+#[tactic(auto, unfolding(rules::specs::Names::block_writes))]
 pub fn writes(b: Block) -> u64
     requires { BlockFit b }
     ensures { Mask (block_writes b) result }

@@ -17,6 +17,7 @@ fn target_resource(t: Target) -> u8
 }
 
 // An update by an expression that names what the update writes.
+#[tactic(auto, unfolding(rules::specs::Read::updates_itself))]
 pub fn updates_itself(t: Target, e: Expression) -> bool
     ensures { result ≡ updates_itself t e }
 {
@@ -24,6 +25,7 @@ pub fn updates_itself(t: Target, e: Expression) -> bool
 }
 
 // An exchange whose second target names the first's variable.
+#[tactic(auto, unfolding(rules::specs::Read::exchanges_itself))]
 pub fn exchanges_itself(a: Target, b: Target) -> bool
     ensures { result ≡ exchanges_itself a b }
 {

@@ -112,6 +112,7 @@ fn instruction_names(i: Instruction, x: u8) -> bool
 }
 
 // A block names x elsewhere than in V or P.
+#[tactic(auto, unfolding(rules::specs::Names::block_names))]
 pub fn block_names(b: Block, x: u8) -> bool
     ensures { result ≡ block_names b x }
 {

@@ -39,6 +39,7 @@ fn place(g: u16) -> usize
 }
 
 // The first label noted stays.
+#[tactic(auto, unfolding(rules::specs::Base::pick))]
 fn first_of(count: u16, old: u8, new: u8) -> u8
     ensures { result ≡ pick (eqb count 0) new old }
 {

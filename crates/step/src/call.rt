@@ -3,7 +3,7 @@ ghost use Rattle.step.specs.Called.{CallOf};
 
 use rules::{Instruction, Names};
 
-#[derive(Drop)]
+#[derive(Clone, Copy)]
 pub enum Called {
     Labels(Names),
     Nothing,

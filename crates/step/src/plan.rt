@@ -4,7 +4,7 @@ use rules::{Names, Place};
 
 // The row of the process comes first in each. A leaf's step and a fork move the row to a place. Children are put in from a row on,
 // or taken out: how many. A forward step keeps its block; an undo closes up the entry at a place.
-#[derive(Drop)]
+#[derive(Clone, Copy)]
 pub enum Plan {
     // code
     Refused(u32),
