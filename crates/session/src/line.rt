@@ -60,6 +60,7 @@ pub fn field(line: &mut [u8], at: usize, n: u32) -> usize
 }
 
 // F or B.
+#[tactic(auto, unfolding(rules::specs::Base::pick))]
 pub fn letter(direction: u32) -> u8
     ensures { result ≡ pick (eqb direction 0) 0x46 0x42 }
 {
