@@ -32,6 +32,7 @@ fn capped(x: u8, y: u8) -> u8
 }
 
 // How many labels block b calls, where it is of the label's process block; else 0.
+#[tactic(auto, unfolding(rules::specs::Base::pick))]
 fn count_in(homes: &[u8], counts: &[u8], label: u8, b: usize) -> usize
     requires { (b < length homes.now) × (b < length counts.now) }
     ensures { result ≡ pick (eqb (get_or homes.now b 0) label) (get_or counts.now b 0) 0 }

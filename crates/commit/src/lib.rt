@@ -11,6 +11,7 @@ use rules::{Names, Place};
 use step::plan::Plan;
 
 // The pending writes made in the memory.
+#[tactic(auto, unfolding(step::specs::Planned::writes_made))]
 fn write(m: &mut [u32], writes: Writes)
     requires { (length m.old ≡ 8674) × WritesFit writes }
     ensures { m.new ≡ writes_made writes m.old }
@@ -83,6 +84,7 @@ fn undo_merge(m: &mut [u32], row: usize, names: Names, first: usize, entry: usiz
     change::close_up(m, entry);
 }
 
+#[tactic(auto, unfolding(step::specs::Planned::planned))]
 pub fn commit(m: &mut [u32], plan: Plan)
     requires { Lent m.old × PlanFit plan (view m.old) }
     ensures { m.new ≡ left (planned plan (view m.old)) m.old }

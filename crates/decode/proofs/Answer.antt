@@ -65,6 +65,6 @@ module _ (s : List ℕ) (r : Decoded) (w : Shows (decoded s) r) where
         (get_d_any (program r) k no_block d k-fits ∙ get_or-take r.count r.blocks k d l)
         (fit s h (program r) (length s) accepted-is k k-fits)
 
--- what a proof knows of a slice: `slice_bytes s (.. .shared-slice-known .given)`
+-- what a proof knows of a slice s: `slice_bytes s c.type_inv.s`
 pub slice_bytes : (s : List ℕ) → ((k : ℕ) → Fits w8 (get_or s k 0)) → Bytes s
 slice_bytes s h k = (h k).fits

@@ -4,7 +4,7 @@
 ghost use Rattle.std.specs.Prelude.{◌≡◌, ◌%◌, ◌<◌};
 ghost use Rattle.rules.specs.Machine.{child, parent};
 
-#[derive(Drop)]
+#[derive(Clone, Copy)]
 pub struct Identifier {
     pub number: u32,
 }

@@ -1,5 +1,5 @@
 -- What the loop has read stands first in the array, so each way out shows what the whole reading gives.
-use Rattle.std.proofs.Common.{◌<◌, ◌≤◌, length, refl, sym, arith}
+use Rattle.std.proofs.Common.{◌<◌, refl, sym, arith}
 use Rattle.std.proofs.Math.ListN.{length-set}
 use Rattle.std.proofs.Math.Seq.{length-take-le}
 use Rattle.decode.proofs.Blocks.{stand_start, stand_got, stand_fault, stand_full, stand_end}
@@ -19,9 +19,8 @@ pub loop-at-preserved : goal.loop-at-preserved
 loop-at-preserved c =
     let l = c.loop-at in
     let h : l.n < 128 = omega arith in
-    let k : l.n < length l.blocks = omega arith in
     record {
-      read = stand_got _ _ _ l.at l.n _ _ h k c.loop-at-test.true (sym c.in-Got.ensures) l.invariant.read;
+      read = stand_got _ _ _ l.at l.n _ _ h (omega arith) c.loop-at-test.true (sym c.in-Got.ensures) l.invariant.read;
       few = omega arith;
       room = simp length-set l.invariant.room;
     }
@@ -41,6 +40,5 @@ returns-in-Bad c =
 pub returns : goal.returns
 returns c =
     let l = c.loop-at in
-    let k : l.n ≤ length l.blocks = omega arith in
     rw (stand_end _ _ _ l.at l.n c.loop-at-test.false l.invariant.read)
-    (record { code_is = refl; place_is = refl; count_is = sym (length-take-le _ _ k); count_fits = l.invariant.few; blocks_are = refl })
+    (record { code_is = refl; place_is = refl; count_is = sym (length-take-le _ _ (omega arith)); count_fits = l.invariant.few; blocks_are = refl })
