@@ -46,6 +46,7 @@ pub fn first_child(m: &[u32], p: u32) -> usize
 }
 
 // 1 for a child of p, else 0.
+#[tactic(auto, unfolding(rules::specs::Base::pick))]
 fn one_if_child(p: u32, q: u32) -> usize
     ensures { result ≡ pick (is_child_of p q) 1 0 }
 {
