@@ -8,7 +8,7 @@ use mathlib.Core.List.{List, [], ◌∷◌, map}
 use mathlib.Core.Option.{Option, some}
 use lib.ListN.{length, get_or, get_elem?, length-map}
 use lib.Dec.{eqb, ltb}
-use borrow.Author.Tests.{eq-eqb, eqb-true, eqb-false, ltb-true, not_true}
+use borrow.Author.Tests.{eq-eqb, eqb-true, eqb-false, ltb-true, not-true}
 use Rattle.rules.specs.Base.{each_of, pick, those, up_from, alike}
 use Rattle.rules.specs.Machine.{Process, is_child_of, children, live_count, standing, view}
 use Rattle.rules.specs.Fits.{ascending, called_at, nth, child_label, stands_in_some, own_fits, children_fit}
@@ -125,7 +125,7 @@ module _ (program : List Block) (w : List ℕ) (o : Ordered w) (own : each_of (o
       let p = get_or w (290 + 3 * j) 0 in
       let q = get_or w (290 + 3 * i) 0 in
       let b = and-true (not (eqb q 0)) (eqb (q / 16) p) c in
-      let f = eqb-false q 0 (not_true (eqb q 0) b.0) in
+      let f = eqb-false q 0 (not-true (eqb q 0) b.0) in
       let e : q / 16 ≡ p = eqb-true (q / 16) p b.1 in
       let s : child_label program (standing (view w).rows (q / 16)) (q % 16) ≡ nth (called_at program (row_at w j).stands) (q % 16) =
       ap (λ (x : Option Place). child_label program x (q % 16)) (ap (standing (view w).rows) e ∙ parent-stands) in

@@ -25,7 +25,7 @@ use step::call::Called;
 use step::plan::Plan;
 
 // The place of the newest entry of p that the graph does not hold; nothing where it holds it, or p has none.
-#[derive(Drop)]
+#[derive(Clone, Copy)]
 pub enum Free {
     Entry(usize),
     Nothing,
