@@ -1,4 +1,4 @@
--- All children stand at the stage where no row is another child's.
+-- A row that is not ready is that of a child at another stage; where no row is such, all children stand at the stage.
 use Rattle.std.proofs.Common.{sym, ◌∙◌, arith}
 use Rattle.rules.specs.Machine.{view}
 use Rattle.ordered.proofs.Each.{rows_true, rows-false}

@@ -40,4 +40,4 @@ returns c =
     let k : length (take n blocks) ≡ n = taken blocks n (omega arith) in
     ap (λ (x : ℕ). Judgement.Accepted x c.main_peak-peak.result) c.place-2.ensures
     ∙ accepted (take n blocks) c.args.homes.now t.result.counts t.result.names n k c.requires.1 t.ensures.calls _ _ c.fourteen-circle.ensures
-    c.if-circle-n.false c.main_peak-peak.ensures c.if-peak-gt64.false
+    c.if-circle-n.false c.main_peak-peak.ensures (omega arith)

@@ -1,4 +1,4 @@
--- Without room the undo of a merge is refused; else the children's rows begin where none of the process's stands before.
+-- Without room the undo of a merge is refused; else the children's rows go in at the first row from child 1 on.
 use Rattle.std.proofs.Common.{ℕ, subst, arith}
 use Rattle.rules.specs.Machine.{child}
 use Rattle.step.specs.Ready.{FirstFrom}
