@@ -87,12 +87,7 @@ pub fn tillerwrap_start(image: &[u8], first: &[u8], machine: &mut [u8]) -> Answe
 }
 
 // One forward step or one undo of a process: the lent bytes are those of the machine after it, or on a refusal left as they are.
-pub fn tillerwrap_step(
-    image: &[u8],
-    process: u32,
-    direction: u32,
-    machine: &mut [u8],
-) -> Answer
+pub fn tillerwrap_step(image: &[u8], process: u32, direction: u32, machine: &mut [u8]) -> Answer
     ensures { outcome_of result machine.new ≡ step_bytes image.now machine.old process direction }
 {
     if machine.len() != MACHINE_BYTES {
