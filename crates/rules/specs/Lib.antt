@@ -1,7 +1,9 @@
 pub mod Base
 pub mod Value
+pub mod Meaning
 pub mod Format
 pub mod Names
+pub mod Resources
 pub mod Read
 pub mod Labels
 pub mod Calls
@@ -13,7 +15,9 @@ pub mod Leaf
 pub mod Step
 pub mod Words
 pub mod List
+pub mod RefusalTable
 pub mod Session
 pub mod Paper
 pub mod Annotation
 pub mod Cases
+pub mod TakeBack

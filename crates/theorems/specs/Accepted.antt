@@ -9,12 +9,12 @@ use Rattle.rules.specs.declared.Block.{Block}
 use Rattle.rules.specs.declared.Judgement.{Judgement}
 use Rattle.laws.proofs.Search.{lowest-none}
 
-abbrev IsAccepted : Judgement → Type 0
+abbrev pub IsAccepted : Judgement → Type 0
 IsAccepted (Judgement.Refused code place) = ⊥
 IsAccepted (Judgement.Accepted blocks peak) = Unit {0}
 
 -- an accepted judgement passed the first test, and the rest accepts
-past-lowest :
+pub past-lowest :
     (code : ℕ) (bad : ℕ → Bool) (n : ℕ) (rest : Judgement) → IsAccepted (at_lowest code bad n rest) →
     ((b : ℕ) → b < n → bad b ≡ false) × IsAccepted rest
 unfolding at_lowest pick

@@ -58,13 +58,13 @@ module _ (P : ℕ → Type 0) (p22 : P 22) (p23 : P 23) (p24 : P 24) (p25 : P 25
   expression-only m (Expression.Two o a b) =
       only-after P (operand_value m a) _ (operand-only m a) (λ v. only-after P (operand_value m b) _ (operand-only m b) (λ w. tt))
 
-  entry-only : (m : List ℕ) (e : Entry) → Only P (entry_place m e)
+  pub entry-only : (m : List ℕ) (e : Entry) → Only P (entry_place m e)
   unfolding entry_place
   entry-only m (Entry.From l) = tt
   entry-only m (Entry.Either l k e) = only-after P (expression_value m e) _ (expression-only m e) (λ v. tt)
   entry-only m (Entry.Begin l) = tt
 
-  exit-only : (m : List ℕ) (e : Exit) → Only P (exit_place m e)
+  pub exit-only : (m : List ℕ) (e : Exit) → Only P (exit_place m e)
   unfolding exit_place
   exit-only m (Exit.To l) = tt
   exit-only m (Exit.Either e l k) = only-after P (expression_value m e) _ (expression-only m e) (λ v. tt)

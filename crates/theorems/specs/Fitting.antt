@@ -1,4 +1,5 @@
--- A reached machine passes code 17: its rows, row by row, and its sizes. Assumes that the image is sound.
+-- A machine passes code 17, row by row, whose rows are well-formed, hang from the root and name the newest entries of its history; so
+-- does a reached one. Assumes that the image is sound.
 use Rattle.std.specs.Prelude.{◌≡◌, refl, ◌⊎◌, ◌≢◌, ◌||◌, length, ltb}
 use Rattle.std.proofs.Math.Path.{sym, ap, subst}
 use Rattle.std.proofs.Common.{◌∙◌, inl, inr, arith, lt-ltb}
@@ -15,7 +16,8 @@ use Rattle.theory.specs.Histories.{NoneBy}
 use Rattle.theory.specs.Local.{Taken, slot, is_kid, kid-facts}
 use Rattle.theory.specs.Shapes.{footprints}
 use Rattle.theory.specs.Family.{Family, OfLabel, Ok}
-use Rattle.theory.specs.Machine.{mark, named}
+use Rattle.theory.specs.Machine.{mark, named, lawful}
+use Rattle.theory.specs.Emptied.{NamesNewest}
 use Rattle.theory.specs.Started.{bare}
 use Rattle.theory.specs.Peak.{Hangs}
 use Rattle.theory.specs.Optional.{onto, slot_of}
@@ -35,7 +37,7 @@ use Rattle.theorems.specs.Tables.{row_at, Sorted, of_sorted, standing_here, stan
 use Rattle.theorems.specs.Children.{kids}
 use Rattle.theorems.specs.Room.{rows-room}
 use Rattle.theorems.specs.Waiting.{kids-kid, children-kid, children-some, children-sorted, some-children}
-use Rattle.theorems.specs.Forward.{configuration_of, entry_of, Well, ahead, few-labels}
+use Rattle.theorems.specs.Forward.{Configuration, configuration_of, entry_of, Well, ahead, few-labels}
 use Rattle.theorems.specs.Backward.{behind}
 use Rattle.theorems.specs.Reached.{Reached, reached-rows, laws, origin, origin-ok}
 use Rattle.theorems.specs.Identifiers.{parent-family, reached-kept}
@@ -195,15 +197,18 @@ module _ (program : List Block) (S : Sound program) where
   unfolding called_at
   out-called b c = ap (called program) (exit-some program S (out_of program b) b ((real program S).out_exit b c)).1
 
-  module _ (memory : List ℕ) (fine : Fine memory) (m : Machine) (r : Reached program S memory fine m) where
+  -- what a row names is the newest entry of its process
+  abbrev pub Names : Configuration → List Taken → Type 0
+  Names =
+      NamesNewest (footprints (real program S)) (ahead program S) (behind program S) (Ok (real program S)) (mark (real program S))
+      (lawful (real program S))
+
+  -- well-formed rows that ascend and hang from the root, and that name the newest entries of a known history, fit
+  module _
+      (m : Machine) (ordered : Sorted m.rows) (ok : Well program S (standing m.rows)) (H : Hangs (real program S) (standing m.rows))
+      (names : Names (configuration_of m) (map entry_of m.history)) (known : each_of (kept_fits program) m.history ≡ true) where
     abbrev T : ℕ → Option Place
     T = standing m.rows
-
-    ok : Well program S T
-    ok = (reached-rows program S memory fine m r).0
-
-    H : Hangs (real program S) T
-    H = (reached-rows program S memory fine m r).1
 
     top-home : home_of program H.top ≡ main
     top-home = H.in_main ∙ home-outer program S (place main begin) (inl refl)
@@ -255,12 +260,12 @@ module _ (program : List Block) (S : Sound program) where
           rest ls = alike (map (λ c. c.identifier) (children m.rows x)) (up_from (child x 1) (length ls))
 
           family : eqb (length (children m.rows x)) 0 ≡ false → Family (real program S) T x
-          family h = ok.family x (some-children m.rows x r.ordered H.tree h)
+          family h = ok.family x (some-children m.rows x ordered H.tree h)
 
           ids :
               (h : eqb (length (children m.rows x)) 0 ≡ false) →
               map (λ (c : Process). c.identifier) (children m.rows x) ≡ up_from (child x 1) (length (called program (family h).b))
-          ids h = row-by_row (children m.rows x) (child x 1) (length ls) (children-sorted m.rows x r.ordered) inside outside
+          ids h = row-by_row (children m.rows x) (child x 1) (length ls) (children-sorted m.rows x ordered) inside outside
             where
               F : Family (real program S) T x
               F = family h
@@ -320,11 +325,7 @@ module _ (program : List Block) (S : Sound program) where
           go (yes e) = or_left (eqb a.stage begin) (is_block (newest m.history x) (exit_block program a)) (eqb_same a.stage begin e)
           go (no n) =
               let e : Taken = record { process = x; block = exit_block program a } in
-              let w =
-              Replay.rows-fit_history (footprints (real program S)) (ahead program S) (behind program S) (Ok (real program S)) (mark (real program S))
-              (laws program S memory fine) (origin program S memory fine) (origin-ok program S memory fine)
-              (bare (real program S) memory)
-              (configuration_of m) (map entry_of m.history) x e r.replayed (marked n) in
+              let w = names x e (marked n) in
               let k = newest-mapped program S m.history w.0.front w.0.rest e w.0.whole w.0.last in
               or_right (eqb a.stage begin) (is_block (newest m.history x) (exit_block program a))
               (ap (λ (o : Option ℕ). is_block o (exit_block program a)) k ∙ eqb_same (exit_block program a) (exit_block program a) refl)
@@ -336,13 +337,24 @@ module _ (program : List Block) (S : Sound program) where
           (true_and (own_fits program m.rows (row_at x a)) _ own-fits
           (true_and (children_fit program m.rows (row_at x a)) (newest_fits program m.history (row_at x a)) children-fit newest-fits))
 
-    pub reached-machine_fits : machine_fits program m ≡ true
+    pub parts-fit : machine_fits program m ≡ true
     unfolding machine_fits
-    reached-machine_fits =
-        true_and (ascending m.rows) _ (of_sorted m.rows r.ordered)
+    parts-fit =
+        true_and (ascending m.rows) _ (of_sorted m.rows ordered)
         (true_and (root_fits program m.rows) _ root-fits
         (true_and (each_of (row_fits program m) m.rows) (each_of (kept_fits program) m.history)
-        (standing-each (row_fits program m) m.rows r.ordered row_fits_so) (reached-kept program S memory fine m r)))
+        (standing-each (row_fits program m) m.rows ordered row_fits_so) known))
+
+  module _ (memory : List ℕ) (fine : Fine memory) (m : Machine) (r : Reached program S memory fine m) where
+    pub reached-machine_fits : machine_fits program m ≡ true
+    reached-machine_fits =
+        let ok = reached-rows program S memory fine m r in
+        parts-fit m r.ordered ok.0 ok.1
+        (λ x e k. Replay.rows-fit_history (footprints (real program S)) (ahead program S) (behind program S) (Ok (real program S))
+        (mark (real program S)) (laws program S memory fine) (origin program S memory fine) (origin-ok program S memory fine)
+        (bare (real program S) memory) (configuration_of m) (map entry_of m.history) x e r.replayed k) (reached-kept program S memory fine m r)
 
     pub reached-room : length m.rows ≤ most_rows
-    reached-room = rows-room program S m.rows r.ordered ok H
+    reached-room =
+        let ok = reached-rows program S memory fine m r in
+        rows-room program S m.rows r.ordered ok.0 ok.1

@@ -152,7 +152,7 @@ module _ (program : List Block) (S : Sound program) where
           none true = refl
           none false = refl
 
-  indep-same :
+  pub indep-same :
       (k j : Kept) → Indep (feet_of program) k j →
       Indep (feet (reads_of program) (writes_of program) (real program S).written_read) (entry_of k) (entry_of j)
   indep-same k j i = (

@@ -72,7 +72,7 @@ module _ {A : Type 0} where
       go true e m ih = first e (Memᴰ.cases_cons m) ih
       go false e m ih = more (ih m)
 
-some_below_so : (p : ℕ → Bool) (n r : ℕ) → r < n → p r ≡ true → some_below p n ≡ true
+pub some_below_so : (p : ℕ → Bool) (n r : ℕ) → r < n → p r ≡ true → some_below p n ≡ true
 unfolding some_below
 some_below_so p zero r lt h = absurd (omega arith)
 some_below_so p (suc n) r lt h = go (ℕ_discrete r n) (λ l. some_below_so p n r l h)
@@ -81,7 +81,7 @@ some_below_so p (suc n) r lt h = go (ℕ_discrete r n) (λ l. some_below_so p n 
     go (yes e) ih = or_right (some_below p n) (p n) (subst (λ (z : ℕ). p z ≡ true) e h)
     go (no d) ih = or_left (some_below p n) (p n) (ih (omega (arith, d)))
 
-below-some : (p : ℕ → Bool) (n : ℕ) → some_below p n ≡ true → (r : ℕ) × (r < n) × (p r ≡ true)
+pub below-some : (p : ℕ → Bool) (n : ℕ) → some_below p n ≡ true → (r : ℕ) × (r < n) × (p r ≡ true)
 unfolding some_below
 below-some p zero h = absurd (true_false h refl)
 below-some p (suc n) h = go (or_cases (some_below p n) (p n) h) (λ k. below-some p n k)
@@ -215,7 +215,7 @@ module _ (program : List Block) where
         (clash k j r (ltb-true r resources a.0) (inr (true_and (reads program k r) (writes program j r) b.1 a.1))) h)),
   )
 
-  steps_apart : (k j : Kept) → Indep Φ k j → conflicts program k j ≡ false
+  pub steps_apart : (k j : Kept) → Indep Φ k j → conflicts program k j ≡ false
   unfolding conflicts
   steps_apart k j i =
       not_true _ (λ h. go (or_cases (some_below (λ r. writes program k r && reads program j r) resources)

@@ -21,14 +21,14 @@ use Rattle.theorems.specs.PaperShown.{Shows, StepFrom, StepTo}
 use Rattle.theorems.specs.PaperForward.{forward-steps, steps-forward}
 use Rattle.theorems.specs.PaperUndo.{undo-steps, steps-undo}
 
-is_block_some : (o : Option ℕ) (b : ℕ) → is_block o b ≡ true → o ≡ some b
+pub is_block_some : (o : Option ℕ) (b : ℕ) → is_block o b ≡ true → o ≡ some b
 is_block_some none b h = absurd (true_false h refl)
 is_block_some (some a) b h = ap some (eqb-true a b h)
 
 module _ (program : List Block) (S : Sound program) (m : Machine) (passed : machine_fits program m ≡ true) (p : ℕ) (here : Place)
     (live : standing m.rows p ≡ some here) where
   -- the newest kept step of a process that is not at begin is by the block at whose exit it stands
-  kept : here.stage ≢ begin → newest m.history p ≡ some (exit_block program here)
+  pub kept : here.stage ≢ begin → newest m.history p ≡ some (exit_block program here)
   unfolding machine_fits row_fits newest_fits
   kept n =
       let a = and-true (ascending m.rows) _ passed in

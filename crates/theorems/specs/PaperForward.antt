@@ -108,7 +108,7 @@ module _ (program : List Block) (S : Sound program) (m : Machine) (p : ℕ) (her
   unfolding merge
   merged b = (record { memory = m.memory; rows = remove_rows m.rows p; history = keep m.history p b }, refl)
 
-  goes_on_with :
+  pub goes_on_with :
       (e : Taken) (s' : Configuration) → ahead program S (configuration_of m) p ≡ some (e, s') → length m.history < most_kept → Room →
       (m' : Machine) × (Step.forward program m p here ≡ made m')
   unfolding Step.forward forward_childless

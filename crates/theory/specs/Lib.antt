@@ -16,3 +16,10 @@ pub mod Machine
 pub mod Started
 pub mod Counting
 pub mod Peak
+pub mod TakingBack
+pub mod Marks
+pub mod Returning
+pub mod Kinship
+pub mod Redoing
+pub mod Emptied
+pub mod Carried

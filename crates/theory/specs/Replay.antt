@@ -40,32 +40,32 @@ module _ (Φ : Feet) where
       pub mark_onward : (s s' : C) (e : Entry) → Step s e s' → mark s' (process e) ≡ some e
       pub mark_other : (s s' : C) (e : Entry) (q : ℕ) (x : Entry) → Step s e s' → process e ≢ q → mark s' q ≡ some x → mark s q ≡ some x
 
-    runs-split : (s c : C) (u v : List Entry) → Runs s (u ++ v) c → (s' : C) × Runs s u s' × Runs s' v c
+    pub runs-split : (s c : C) (u v : List Entry) → Runs s (u ++ v) c → (s' : C) × Runs s u s' × Runs s' v c
     runs-split s c [] v r = (s, refl, r)
     runs-split s c (e ∷ u) v r =
         let i = runs-split r.0 c u v r.2 in
         (i.0, (r.0, r.1, i.1), i.2)
 
-    runs_append : (s s' c : C) (u v : List Entry) → Runs s u s' → Runs s' v c → Runs s (u ++ v) c
+    pub runs_append : (s s' c : C) (u v : List Entry) → Runs s u s' → Runs s' v c → Runs s (u ++ v) c
     runs_append s s' c [] v a b = subst (λ x. Runs x v c) (sym a) b
     runs_append s s' c (e ∷ u) v a b = (a.0, a.1, runs_append a.0 s' c u v a.2 b)
 
     module _ (Ok : C → Type 0) (mark : C → ℕ → Option Entry) (L : Lawful Ok mark) where
-      runs-ok : (s c : C) (h : List Entry) → Ok s → Runs s h c → Ok c
+      pub runs-ok : (s c : C) (h : List Entry) → Ok s → Runs s h c → Ok c
       runs-ok s c [] o r = subst Ok r o
       runs-ok s c (e ∷ t) o r = runs-ok r.0 c t (L.ok_step s r.0 e o r.1) r.2
 
       some_pair : (x y : Entry) (a b : C) → Path (Option (Entry × C)) (some (x, a)) (some (y, b)) → (x ≡ y) × (a ≡ b)
       some_pair x y a b h = let q : Path (Entry × C) (x, a) (y, b) = cc in (ap (λ z. z.0) q, ap (λ z. z.1) q)
 
-      step-det : (s a b : C) (x y : Entry) → process x ≡ process y → Step s x a → Step s y b → (x ≡ y) × (a ≡ b)
+      pub step-det : (s a b : C) (x y : Entry) → process x ≡ process y → Step s x a → Step s y b → (x ≡ y) × (a ≡ b)
       step-det s a b x y h p q = some_pair x y a b (sym p ∙ ap (onward s) h ∙ q)
 
-      back-det : (s a b : C) (x y : Entry) → process x ≡ process y → Back s x a → Back s y b → (x ≡ y) × (a ≡ b)
+      pub back-det : (s a b : C) (x y : Entry) → process x ≡ process y → Back s x a → Back s y b → (x ≡ y) × (a ≡ b)
       back-det s a b x y h p q = some_pair x y a b (sym p ∙ ap (backward s) h ∙ q)
 
       -- a step that could be made before u, and is apart from u, can be made after u, and both ways end in one state
-      along :
+      pub along :
           (s s₁ s₂ : C) (e : Entry) (u : List Entry) → Ok s → Apart Φ e u → Step s e s₁ → Runs s u s₂ →
           (s₃ : C) × Step s₂ e s₃ × Runs s₁ u s₃
       along s s₁ s₂ e [] o a st r = (s₁, subst (λ x. Step x e s₁) r st, refl)
@@ -75,7 +75,7 @@ module _ (Φ : Feet) where
           (i.0, i.1, (d.0, d.1, i.2))
 
       -- and back: a step that can be undone after u, and is apart from u, could be undone before u
-      unwind :
+      pub unwind :
           (s₁ c c' : C) (e : Entry) (u : List Entry) → Ok s₁ → Apart Φ e u → Runs s₁ u c → Back c e c' →
           (s₀ : C) × Back s₁ e s₀ × Runs s₀ u c'
       unwind s₁ c c' e [] o a r b = (c', subst (λ x. Back x e c') (sym r) b, refl)
@@ -84,7 +84,7 @@ module _ (Φ : Feet) where
           let q = L.square s₁ i.0 r.0 e f o a.0 a.1 r.1 i.1 in
           (q.0, q.1, (i.0, q.2, i.2))
 
-      mark-along : (s c : C) (u : List Entry) (q : ℕ) (x : Entry) → NoneBy Φ q u → Runs s u c → mark c q ≡ some x → mark s q ≡ some x
+      pub mark-along : (s c : C) (u : List Entry) (q : ℕ) (x : Entry) → NoneBy Φ q u → Runs s u c → mark c q ≡ some x → mark s q ≡ some x
       mark-along s c [] q x n r m = subst (λ z. mark z q ≡ some x) (sym r) m
       mark-along s c (f ∷ u) q x n r m = L.mark_other s r.0 f q x r.1 n.0 (mark-along r.0 c u q x n.1 r.2 m)
 
@@ -95,7 +95,7 @@ module _ (Φ : Feet) where
         pub whole : h ≡ front ++ x ∷ rest
         pub last : NoneBy Φ (process x) rest
 
-      mark-newest :
+      pub mark-newest :
           (s c : C) (h : List Entry) (q : ℕ) (x : Entry) → Runs s h c → mark c q ≡ some x →
           ((mark s q ≡ some x) × NoneBy Φ q h) ⊎ (Newest h x × (process x ≡ q))
       mark-newest s c [] q x r m = inl (subst (λ z. mark z q ≡ some x) (sym r) m, tt)
