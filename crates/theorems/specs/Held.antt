@@ -18,7 +18,7 @@ use Rattle.theory.specs.Cause
 use Rattle.rules.specs.Base.{pick, those, each_of, some_of, some_below}
 use Rattle.rules.specs.Names.{resources}
 use Rattle.rules.specs.Machine.{Kept}
-use Rattle.rules.specs.Cause.{reads, writes, Node, Source, start_mark, node, Edge, entries_of, last_writer, edges, same_node, same_source, is_newest, none_leaves, is_read_of, reads_last, may_go_back, newest_node, holds}
+use Rattle.rules.specs.Cause.{reads, writes, Node, Source, start_mark, node, entries_of, last_writer, edges, same_node, same_source, is_newest, none_leaves, is_read_of, reads_last, may_go_back, newest_node, holds}
 use Rattle.rules.specs.declared.Block.{Block}
 use Rattle.laws.specs.Conflict.{conflicts}
 use Rattle.theorems.specs.Graphs.{feet_of, source_of, source-inj, Shows, shows-none, shows-after, edge_at, edge-listed, listed-edge}

@@ -7,7 +7,7 @@ use Rattle.std.proofs.Common.{sym, ap, ◌∙◌, subst, inl, inr, arith, eqb-tr
 use Rattle.std.proofs.Math.Bool.{true}
 use Rattle.std.proofs.Math.Option.{Option, some}
 use mathlib.Core.List.{List, [], ◌∷◌, ◌++◌, map}
-use Prim.Native.Nat.{ℕ, zero, suc, ◌+◌, ◌/◌, ◌%◌, ◌<◌, ◌≤◌}
+use Prim.Native.Nat.{ℕ, zero, suc, ◌/◌, ◌%◌, ◌<◌, ◌≤◌}
 use Rattle.theory.specs.Tests.{eqb_same, and-true, true_and, or_left, or_right, or_cases}
 use Rattle.theory.specs.Local.{Taken, is_kid, kid-facts, fired, put_self}
 use Rattle.theory.specs.Shapes.{forward-shape, forward}

@@ -18,7 +18,7 @@ use Rattle.rules.specs.Names.{block_reads, block_writes}
 use Rattle.rules.specs.Labels.{block_of}
 use Rattle.rules.specs.Machine.{Kept}
 use Rattle.rules.specs.Fits.{newest, or_else}
-use Rattle.rules.specs.Cause.{reads, writes, Node, Source, node, Edge, entries_of, last_writer, nodes_from, edges_from, nodes, edges, same_node, same_source, is_newest, none_leaves, is_read_of, reads_last, may_go_back, newest_node, holds}
+use Rattle.rules.specs.Cause.{Node, Source, node, Edge, entries_of, last_writer, nodes_from, edges_from, nodes, edges, same_node, same_source, is_newest, none_leaves, is_read_of, reads_last, may_go_back, newest_node, holds}
 use Rattle.rules.specs.Annotation.{Annotation, node_at, Whole, Last, unwritten, written, Extends}
 use Rattle.rules.specs.Step.{close_up}
 use Rattle.rules.specs.declared.Block.{Block}

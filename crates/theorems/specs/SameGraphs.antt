@@ -7,7 +7,7 @@ use Rattle.theory.specs.Cause
 use Rattle.theory.specs.Cause.{Feet, Origin, step, Base, fresh, push}
 use Rattle.theory.specs.Local.{feet}
 use Rattle.rules.specs.Machine.{Kept}
-use Rattle.rules.specs.Cause.{Edge, SameGraph, nodes, edges}
+use Rattle.rules.specs.Cause.{SameGraph, nodes, edges}
 use Rattle.rules.specs.declared.Block.{Block}
 use Rattle.theorems.specs.Graphs.{feet_of, source-inj, shows-none, node_at, edge_at, node-listed, listed-node, edge-listed, listed-edge}
 use Rattle.theorems.specs.Parts.{reads_of, writes_of}

@@ -1,6 +1,6 @@
 -- Rows in ascending order as a table: what stands where after rows are moved, picked out and put in; two tables that say the
 -- same of each identifier are equal. Assumes nothing.
-use Rattle.std.specs.Prelude.{◌≡◌, ◌⊎◌, ◌≢◌, Bool, ℕ, suc, ◌+◌, ◌<◌, ◌≤◌, length, eqb, ltb, leb}
+use Rattle.std.specs.Prelude.{◌≡◌, ◌⊎◌, ◌≢◌, Bool, ℕ, suc, ◌<◌, ◌≤◌, length, eqb, ltb, leb}
 use Rattle.std.proofs.Math.Path.{refl, sym, subst}
 use Rattle.std.proofs.Common.{ap, ◌∙◌, inl, inr, arith, leb-true, eqb-true, ltb-true, ltb-false, lt-ltb}
 use Rattle.std.proofs.Math.Bool.{true, false}
