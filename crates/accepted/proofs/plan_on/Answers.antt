@@ -1,5 +1,5 @@
 -- Each way out is one of Codes.
-use Rattle.std.proofs.Common.{ℕ, List, take, sym, ◌∙◌, arith}
+use Rattle.std.proofs.Common.{take, sym, ◌∙◌, arith}
 use Rattle.plans.specs.Known.{Known}
 use Rattle.plans.proofs.Known.{lent, rows-64}
 use Rattle.accepted.proofs.Codes.{refusing, code-16, code-17, code-18, code-19, goes_on_with}

@@ -1,5 +1,5 @@
 -- Judging's refusal, or what the machine's start answers and leaves.
-use Rattle.std.proofs.Common.{sym, ◌∙◌}
+use Rattle.std.proofs.Common.{sym}
 use Rattle.rules.specs.Words.{start, start_in}
 use Rattle.runtime.proofs.Judged.{on_refused, on_accepted}
 use Rattle.runtime.proofs.start.Goals as goal

@@ -1,5 +1,5 @@
 -- A refused listing leaves the rows; else as many were lent as it has, a turn writes one row more, and at the end all are written.
-use Rattle.std.proofs.Common.{◌≡◌, ℕ, List, length, refl, sym, ap, ◌∙◌, arith}
+use Rattle.std.proofs.Common.{◌≡◌, List, length, refl, sym, ap, ◌∙◌, arith}
 use borrow.Author.Tests.{ne_eqb}
 use Rattle.rules.specs.Words.{Outcome}
 use Rattle.rules.specs.declared.Row.{Row}
@@ -7,7 +7,7 @@ use Rattle.rules.specs.declared.Answer.{Answer}
 use Rattle.runtime.specs.Outcome.{outcome_of}
 use Rattle.table.specs.Listed.{shown, written}
 use Rattle.table.proofs.Listed.{sixty-four}
-use Rattle.table.proofs.Lists.{length-filled, rows-kept, rows_all}
+use Rattle.table.proofs.Lists.{rows-kept, rows_all}
 use Rattle.tillerwrap.proofs.tillerwrap_list.Goals as goal
 
 pub returns-then-answer-ne0 : goal.returns-then-answer-ne0

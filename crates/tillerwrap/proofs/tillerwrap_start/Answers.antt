@@ -1,5 +1,5 @@
 -- Judging's refusal, or what `start_bytes` answers and leaves.
-use Rattle.std.proofs.Common.{sym, ◌∙◌}
+use Rattle.std.proofs.Common.{sym}
 use Rattle.rules.specs.Words.{start_bytes, start_bytes_in}
 use Rattle.runtime.proofs.Judged.{on_refused, on_accepted}
 use Rattle.tillerwrap.proofs.tillerwrap_start.Goals as goal

@@ -1,5 +1,5 @@
 -- A step on the words of the bytes, written back where it is accepted.
-use Rattle.std.proofs.Common.{ap, ◌∙◌, arith, rules}
+use Rattle.std.proofs.Common.{ap, ◌∙◌, rules}
 use Rattle.runtime.specs.Outcome.{outcome_of}
 use Rattle.tillerwrap.proofs.Lent.{bad-bytes, stepped, kept}
 use Rattle.tillerwrap.proofs.tillerwrap_step.Goals as goal
