@@ -134,6 +134,10 @@ module _ (grid : List ℕ) (b u v : ℕ) (lb : b < most_blocks) (size : length g
           let few = bit-small (get_or (row_of low high) (2 * 0 + y / bits) 0) (y % bits) in
           omega (arith, one, few, d, ei, ej)
 
+-- where block b does not reach block m the row is done as it stands
+pub row_kept : (row grid : List ℕ) (n m b : ℕ) → cell grid b m ≡ 0 → RowDone (joined row grid m b) grid b n grid
+row_kept row grid n m b z = record { size = refl; done = λ y _. rw z (omega arith); others = λ x y _ _. refl }
+
 -- ---- rows
 pub rows_none : (f : ℕ → ℕ → ℕ) (grid : List ℕ) (n : ℕ) → RowsDone f grid n 0 grid
 rows_none f grid n = record { size = refl; done = λ x y l _. absurd (omega arith); rest = λ x y _ _. refl }

@@ -1,5 +1,5 @@
 -- The peak of a label and the sum of a call's labels, as the loops make them, and what the memo keeps of them. Assumes nothing.
-use mathlib.Core.Path.{◌≡◌, refl, sym, ap, ◌∙◌}
+use mathlib.Core.Path.{◌≡◌, refl, sym, ap, subst, ◌∙◌}
 use mathlib.Core.Bool.{Bool, true, false}
 use mathlib.Core.List.{List}
 use mathlib.Core.Logic.{⊎_elim, ◌⊎◌, inl, inr}
@@ -30,6 +30,9 @@ eq-or_ne m n = go (eqb m n) refl
 pub sum-none : (f : ℕ → ℕ) (names : List ℕ) (b : ℕ) → 0 ≡ capped (sum_of f (take 0 (drop (8 * b) names)))
 unfolding sum_of
 sum-none f names b = refl
+
+pub sum-at : (f : ℕ → ℕ) (ls : List ℕ) (j k v : ℕ) → j ≡ k → v ≡ capped (sum_of f (take j ls)) → v ≡ capped (sum_of f (take k ls))
+sum-at f ls j k v e h = subst (λ (i : ℕ). v ≡ capped (sum_of f (take i ls))) e h
 
 module _ (homes counts names : List ℕ) (n : ℕ) (tabled : Tabled homes counts names n) (f : ℕ → ℕ) where
   pub sum-next : (b k v w : ℕ) → b < n → k < get_or counts b 0 → v ≡ capped (sum_of f (take k (drop (8 * b) names)))
@@ -101,6 +104,9 @@ module _
         let d : suc (i / labels) ≡ levels = omega arith in
         let r : i % labels ≡ l = omega arith in
         rw (d, r)
+
+    pub memo_read : (get_or memo i 0 ≡ 0 → ⊥) → get_or memo i 0 ≡ capped (peak_within t levels l)
+    memo_read known = h.right i li known ∙ ap capped place
 
     pub memo_write : (v : ℕ) → v ≡ capped (peak_within t levels l) → Memo t (set memo i v)
     memo_write v e =

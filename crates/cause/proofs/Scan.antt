@@ -5,6 +5,7 @@ use mathlib.Core.List.{List}
 use Prim.Native.Nat.{ℕ, zero, suc, ◌+◌, ◌-◌, ◌*◌, ◌≤◌, ◌<◌}
 use native.Mathlib.Omega.{arith}
 use native.Mathlib.Nat.{add-zero}
+use native.Mathlib.Decide.{ℕ_discrete}
 use lib.ListN.{length, drop, get_or}
 use lib.Bits.{bit_and}
 use lib.Dec.{eqb}
@@ -71,3 +72,11 @@ pub told :
     r ≡ (not (eqb (bit_and (get_or wr b 0) (get_or rd c 0)) 0) || not (eqb (bit_and (get_or rd b 0) (get_or wr c 0)) 0)) → r ≡ v → by_masks rd wr w i j ≡ v
 told rd wr w i j b c p q e f =
     ap₂ (λ (x y : ℕ). not (eqb (bit_and (get_or wr x 0) (get_or rd y 0)) 0) || not (eqb (bit_and (get_or rd x 0) (get_or wr y 0)) 0)) (sym p) (sym q) ∙ sym e ∙ f
+
+-- one more entry passed
+pub onward : (p : ℕ → Bool) (i j : ℕ) → ((k : ℕ) → i < k → k < j → p k ≡ false) → p j ≡ false → (k : ℕ) → i < k → k < j + 1 → p k ≡ false
+onward p i j h e k lo hi = go (ℕ_discrete k j)
+  where
+    go : Dec (k ≡ j) → p k ≡ false
+    go (yes q) = ap p q ∙ e
+    go (no n) = h k lo (omega (arith, n))

@@ -5,12 +5,14 @@ use native.Mathlib.Nat.{not-suc-le-zero, le_of_suc-le-suc}
 use mathlib.Core.Path.{◌≡◌, refl, ap}
 use mathlib.Core.Bool.{true, false, and-false}
 use mathlib.Core.List.{List, [], ◌∷◌}
+use mathlib.Core.Logic.{⊎_elim}
 use lib.ListN.{length, get_or}
 use lib.Dec.{ltb}
 use borrow.Author.Tests.{lt-ltb, le-ltb, ltb-true}
 use Rattle.rules.specs.Machine.{Process, live_count, view}
 use Rattle.rules.specs.Fits.{ascending}
 use Rattle.laws.proofs.Tests.{true_and}
+use Rattle.laws.proofs.Search.{lt-or_le}
 use Rattle.laws.proofs.Ascending.{ascending-head, ascending-tail}
 use Rattle.laws.proofs.View.{no_row, row-at, length-rows}
 use Rattle.laws.proofs.Lists.{each_at}
@@ -46,9 +48,18 @@ module _ (w : List ℕ) where
   abbrev pub Rises : ℕ → Type 0
   Rises i = (j : ℕ) → suc j < i → get_or w (290 + 3 * j) 0 < get_or w (290 + 3 * suc j) 0
 
+  pub rises-none : Rises 1
+  rises-none j h = absurd (omega arith)
+
   -- row i, and the row before it, as the code reads them
   before-it : (i : ℕ) → 1 ≤ i → 290 + 3 * i - 3 ≡ 290 + 3 * (i - 1)
   before-it i h = omega arith
+
+  pub rises-more : (i : ℕ) → 1 ≤ i → Rises i → get_or w (290 + 3 * i - 3) 0 < get_or w (290 + 3 * i) 0 → Rises (i + 1)
+  rises-more i h f l j k =
+      ⊎_elim (λ s. f j s)
+      (λ s. let e : suc j ≡ i = omega arith in let q : j ≡ i - 1 = omega arith in rw (e, q, ← before-it i h) l)
+      (lt-or_le (suc j) i)
 
   pub ascends-true : (i : ℕ) → live_count w ≤ i → Rises i → ascending (view w).rows ≡ true
   ascends-true n k h =

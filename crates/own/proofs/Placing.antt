@@ -96,7 +96,10 @@ past [] i h = refl
 past (a ∷ l) zero h = absurd (not-suc-le-zero h)
 past (a ∷ l) (suc i) h = past l i (le_of_suc-le-suc h)
 
--- there is none past the last
+-- there is no label 0, and none past the last
+pub nth-zero : (l : List ℕ) (i : ℕ) → i ≡ 0 → none ≡ nth l i
+nth-zero l i e = rw e
+
 pub nth_past : (l : List ℕ) (i : ℕ) → length l < i → none ≡ nth l i
 nth_past l zero h = absurd (not-suc-le-zero h)
 nth_past l (suc i) h = sym (past l i (le_of_suc-le-suc h))

@@ -15,6 +15,9 @@ use Rattle.rules.specs.declared.Block.{Block}
 use Rattle.semaphores.specs.Marks.{Marked}
 use Rattle.short.proofs.Programs.{blank, get_or-same, some-of_more}
 
+pub marked-none : (t : List Bool) (p : ℕ → Bool) → ((x : ℕ) → p x ≡ false) → Marked t p t
+marked-none t p none = record { size = refl; each = λ x. sym (ap (λ (b : Bool). get_or t x false || b) (none x) ∙ or-false (get_or t x false)) }
+
 pub marked-one : (t : List Bool) (y : ℕ) → y < length t → Marked t (eqb y) (set t y true)
 marked-one t y h = record { size = length-set t y true; each = λ x. at x (eqb y x) refl }
   where

@@ -17,7 +17,7 @@ use Rattle.laws.proofs.View.{kept_at, no_entry, kept-at, length-history, history
 use Rattle.cause.specs.Held.{Newest, Scanned, later_conflict}
 use Rattle.theorems.specs.Held.{held, held_none, none-counted}
 use Rattle.step.specs.History.{NewestAt}
-use Rattle.undo.specs.Freed.{BlocksBelow, is_held}
+use Rattle.undo.specs.Freed.{BlocksBelow, FreeAt, is_held}
 use Rattle.undo.specs.declared.Free.{Free}
 
 -- no entry from i on is of p
@@ -66,6 +66,9 @@ pub scanned : (w : List ℕ) (bound i : ℕ) → BlocksBelow w bound → i < his
 scanned w bound i b h = record { long = b.long; kept = b.kept; here = h; blocks = b.blocks }
 
 -- what was found by the identifier of a row
+pub newest-in : {history : List Kept} {q p i : ℕ} {r : Free} → q ≡ p → FreeAt history q r → r ≡ Free.Entry i → NewestAt history p i
+newest-in {history} {q} {p} {i} e f g = subst (λ (x : ℕ). NewestAt history x i) e (subst (FreeAt history q) g f)
+
 pub held_in : (program : List Block) (history : List Kept) {q p : ℕ} {r s : Free} → q ≡ p → holds program history q ≡ is_held r → r ≡ s
     → holds program history p ≡ is_held s
 held_in program history e h g = ap (λ (x : ℕ). holds program history x) (sym e) ∙ h ∙ ap is_held g
