@@ -28,7 +28,7 @@ endif
 
 include examples/examples.mk
 
-.PHONY: independent independent-test compiler archive client-test compare compare-test wrong-rules-test bench test
+.PHONY: independent independent-test compiler archive client-test compare compare-test promises-test wrong-rules-test bench test
 
 independent:
 	cd $(INDEPENDENT) && $(call CARGO,$(INDEPENDENT)) build --release --offline --quiet
@@ -62,6 +62,10 @@ compare:
 compare-test: compare archive compiler
 	$(CC64) -O2 $(SANITIZED) $(STRICT) $(COMPARE)/bridge.c $(ARCHIVE) -o target/bridge-sanitized
 	target/compare/release/compare "$(RUN64) target/bridge-sanitized" 1 $(COUNT)
+
+# The statements that docs/PROMISES.md quotes stand so in the sources.
+promises-test:
+	python3 docs/src/promises/check.py
 
 # Five wrong rules, each in a copy of the crates: the theorems must refuse them.
 wrong-rules-test:

@@ -1,7 +1,7 @@
 /*
  * Tillerwrap: a proved runtime for CRIL, a concurrent language whose steps can be taken back.
  *
- * Link with libtillerwrap.a (`rt staticlib tillerwrap` writes target/staticlib/libtillerwrap.a, for x86-64). Every function
+ * Link with libtillerwrap.a (`make archive` writes target/staticlib/libtillerwrap.a, for x86-64). Every function
  * answers for every input, always ends, keeps no state, allocates nothing and writes nothing but what its promise says. The
  * promises below are proved; the definitions in crates/rules/specs state them in full.
  *

@@ -1,5 +1,5 @@
-// The C boundary: what include/tillerwrap.h declares. Each promise is that of the function below it, on numbers and bytes: a slice
-// of words is bytes, four a word, low byte first.
+// The C boundary: what include/tillerwrap.h declares, and crate tillerwrap_c exports. Each promise is that of the function below it,
+// on numbers and bytes: a slice of words is bytes, four a word, low byte first.
 #![tactic(auto)]
 
 ghost use Rattle.std.specs.Prelude.{◌≡◌, List, ℕ, length, replicate};
@@ -126,8 +126,7 @@ fn listing_of(image: &[u8], machine: &[u8], n: usize) -> Listing
     runtime::readiness::ready(image, &words)
 }
 
-// The list: where the code is 0 all 64 rows are written, a row a live process and the rest zero; else they stay as they are. A slice
-// of row structs: proved by hand.
+// The list: where the code is 0 all 64 rows are written, a row a live process and the rest zero; else they stay as they are.
 pub fn tillerwrap_list(image: &[u8], machine: &[u8], rows: &mut [Row]) -> Answer
     ensures { outcome_of result rows.new ≡ list_bytes image.now machine.now rows.old }
 {
