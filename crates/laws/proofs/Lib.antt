@@ -13,3 +13,4 @@ pub mod Rank
 pub mod PeakRight
 pub mod Words
 pub mod Bytes
+pub mod Signed

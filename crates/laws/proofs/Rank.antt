@@ -78,7 +78,8 @@ module _ (t : Calling) where
   unfolding largest pick
   largest-above f zero b l = absurd (not-suc-le-zero l)
   largest-above f (suc n) b l =
-      ⊎_elim (λ e. subst (λ (z : ℕ). f (calls_at t z) ≤ largest t f (home_at t z) (suc n)) (sym e) (last refl)) (λ lt. let h = largest-above f n b lt in omega arith) (eq-or-lt_of_le (le_of_suc-le-suc l))
+      ⊎_elim (λ e. subst (λ (z : ℕ). f (calls_at t z) ≤ largest t f (home_at t z) (suc n)) (sym e) (last refl))
+      (λ lt. let h = largest-above f n b lt in omega arith) (eq-or-lt_of_le (le_of_suc-le-suc l))
     where
       last : home_at t n ≡ home_at t n → f (calls_at t n)
           ≤ max (largest t f (home_at t n) n) (pick (eqb (home_at t n) (home_at t n)) (f (calls_at t n)) 0)

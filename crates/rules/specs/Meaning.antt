@@ -1,5 +1,6 @@
 -- What the operators mean, on whole numbers: for each of the eleven operators and the three updates, which word is right where x and y are the signed
--- numbers of its two sides. Nothing here computes; that `applied`, `negated` and `changed` of Value make these words is the theorem `signed-values` of crate
+-- numbers of its two sides. Nothing here computes; that `applied`, `negated` and `changed` of Value make these words is the theorem
+-- `signed-values` of crate
 -- theorems_values.
 use Rattle.std.specs.Prelude.{ℕ, suc, ◌/◌, ◌%◌, ◌^◌, ◌<◌, ◌≡◌, ◌⊎◌, ◌≢◌, ℤ, pos, ◌+ℤ◌, ◌-ℤ◌}
 use Rattle.rules.specs.Value.{span, word_of}

@@ -127,7 +127,8 @@ module _ (program : List Block) (m : Machine) (p : ℕ) (here : Place) (ahead : 
   abbrev pub calling : Bool
   calling = is_call block.instruction
 
-  -- 25, 22, 23 or 24, the first met by a leaf's step, or by the place after a fork or before it (these meet none on an accepted image and a machine that
+  -- 25, 22, 23 or 24, the first met by a leaf's step, or by the place after a fork or before it (these meet none on an accepted image and a
+  -- machine that
   -- fits it: `only-leaves_ahead` and `only-leaves_back` of OnlyLeavesMeet)
   unfoldable pub met_ahead : Option ℕ
   met_ahead = pick has_none (pick calling (refusal_in (exit_place m.memory block.exit)) (refusal_in (leaf_forward m.memory here block))) none

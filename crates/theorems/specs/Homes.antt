@@ -146,7 +146,7 @@ within-at stands g k l b (suc c) (x ∷ program) lc e =
     let ih = within-at stands g k l (suc b) c program (omega arith) (ap (λ (i : ℕ). get_or g i 0) z ∙ e) in
     omega (arith, t, ih)
 
-one_label_is : (x y : List ℕ) → one_label x y ≡ true → (l : ℕ) × (x ≡ l ∷ []) × (y ≡ l ∷ [])
+pub one_label_is : (x y : List ℕ) → one_label x y ≡ true → (l : ℕ) × (x ≡ l ∷ []) × (y ≡ l ∷ [])
 one_label_is [] y h = absurd (true_false h refl)
 one_label_is (l ∷ []) [] h = absurd (true_false h refl)
 one_label_is (l ∷ []) (m ∷ []) h = (l, refl, ap (λ (k : ℕ). k ∷ []) (sym (eqb-true l m h)))

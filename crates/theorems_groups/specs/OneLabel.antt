@@ -11,7 +11,7 @@ use native.Mathlib.Decide.{ℕ_discrete}
 use lib.ListN.{length, get_or}
 use lib.Dec.{eqb}
 use borrow.Author.Tests.{eqb-true, eq-eqb, not-false}
-use Rattle.theory.specs.Tests.{true_false, bool_cases}
+use Rattle.theory.specs.Tests.{bool_cases}
 use Rattle.rules.specs.Base.{pick}
 use Rattle.rules.specs.Format.{most_blocks}
 use Rattle.rules.specs.Labels.{block_of, begin_labels, end_labels, Joined, chain, groups, within, own_begins, own_ends, one_label, bad11, home}
@@ -19,6 +19,7 @@ use Rattle.rules.specs.declared.Block.{Block}
 use Rattle.rules.specs.declared.Entry.{Entry}
 use Rattle.rules.specs.declared.Exit.{Exit}
 use Rattle.laws.proofs.Lists.{pick_true, pick-false}
+use Rattle.theorems.specs.Homes.{one_label_is}
 use Rattle.theorems_groups.specs.Definitions.{InProcessBlock, ProcessBlock}
 use Rattle.groups.proofs.Joined.{Labelled, one_number, are-joined}
 
@@ -45,13 +46,6 @@ picked : (t : Bool) (x : List ℕ) (l : ℕ) → pick t x [] ≡ l ∷ [] → (t
 unfolding pick
 picked true x l h = (refl, h)
 picked false x l h = absurd (not_one h)
-
-pub one_label_is : (x y : List ℕ) → one_label x y ≡ true → (l : ℕ) × (x ≡ l ∷ []) × (y ≡ l ∷ [])
-one_label_is [] y h = absurd (true_false h refl)
-one_label_is (l ∷ []) [] h = absurd (true_false h refl)
-one_label_is (l ∷ []) (m ∷ []) h = (l, refl, ap (λ (k : ℕ). k ∷ []) (sym (eqb-true l m h)))
-one_label_is (l ∷ []) (m ∷ n ∷ y) h = absurd (true_false h refl)
-one_label_is (l ∷ k ∷ x) y h = absurd (true_false h refl)
 
 -- ---- the labels that stand so in a group, block by block
 module _ (stands : Block → List ℕ) (gs : List ℕ) (g : ℕ) where

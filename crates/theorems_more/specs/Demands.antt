@@ -1,6 +1,7 @@
 -- The customer's demands, one record each and one field a sentence, on bytes, as C calls: `numbers (judgement image)` is what `tillerwrap_judge`
 -- answers, `start_bytes`, `step_bytes` and `list_bytes` are what `tillerwrap_start`, `tillerwrap_step` and `tillerwrap_list` answer and leave, by the
--- promises of crates/tillerwrap. `Bytes` says that the numbers of a list are bytes, which every lent slice's are; what else is lent says Subjects. The
+-- promises of crates/tillerwrap. `Bytes` says that the numbers of a list are bytes, which every lent slice's are; what else is lent says
+-- Subjects. The
 -- work stands in the files that are cited.
 use Rattle.std.specs.Prelude.{◌≡◌, refl, ◌⊎◌, ◌↔◌, true, List, [], ◌∷◌, ◌++◌, ℕ, ◌*◌, ◌<◌, ◌≤◌, length}
 use Rattle.rules.specs.Calls.{most_rows}
@@ -15,7 +16,8 @@ use Rattle.rules.specs.declared.Block.{Block}
 use Rattle.rules.specs.declared.Row.{Row}
 use Rattle.theorems.specs.Outcome.{One, JudgeNumbersAllows, StartBytesAllows, StepBytesAllows, ListBytesAllows, one-outcome}
 use Rattle.theorems.specs.Played.{Call}
-use Rattle.theorems_more.specs.Subjects.{Bytes, IsAccepted, program_of, LentBytes, view_bytes, Given, Room, started_bytes, played_bytes}
+use Rattle.theorems.specs.Refusals.{Bytes}
+use Rattle.theorems_more.specs.Subjects.{IsAccepted, program_of, LentBytes, view_bytes, Given, Room, started_bytes, played_bytes}
 use Rattle.theorems_more.specs.ProcessSets.{ProcessSet}
 use Rattle.theorems.specs.Refusals.{IsRefused, refusal_keeps}
 use Rattle.theorems.specs.PaperShown.{Shows, StepFrom, StepTo}
@@ -27,7 +29,8 @@ use Rattle.theorems_more.specs.ListIsStep.{step_row_bytes, rows_by, list-is_step
 use Rattle.theorems_more.specs.OwnHistory.{forwards_of, own-history_bytes}
 use Rattle.theorems_more.specs.Bytes.Demand2 as two
 use Rattle.theorems_more.specs.Bytes.Demand2.{shown_by, code, left}
-use Rattle.theorems_more.specs.Bytes.Demand3.{SameBytesState, AcceptedBytes, played-lent_bytes, never-17_bytes, same-graph_same_state_bytes, newest-goes_back_bytes, none-left_is_the_start_bytes, played-list}
+use Rattle.theorems_more.specs.Bytes.Demand3.{SameBytesState, AcceptedBytes, played-lent_bytes, never-17_bytes, same-graph_same_state_bytes}
+use Rattle.theorems_more.specs.Bytes.Demand3.{newest-goes_back_bytes, none-left_is_the_start_bytes, played-list}
 use Rattle.theorems_values.specs.SignedValues.{SignedValues, signed-values}
 use Rattle.theorems_more.specs.HandedOn.{HandedOn, handed-on}
 use Rattle.theorems_more.specs.JudgeCounts.{JudgeCounts}
@@ -55,7 +58,8 @@ pub record Demand1 : Type 0 where
   pub judge_counts : (image : List ℕ) → JudgeCounts (program_in image) (numbers (judgement image))
   -- "and the caller's memory stays as handed in."
   pub start_keeps :
-      (image first machine : List ℕ) → Bytes machine → IsRefused (start_bytes image first machine) → (start_bytes image first machine).leaves ≡ machine
+      (image first machine : List ℕ) → Bytes machine → IsRefused (start_bytes image first machine) →
+      (start_bytes image first machine).leaves ≡ machine
   pub step_keeps :
       (image machine : List ℕ) (process direction : ℕ) → Bytes machine → IsRefused (step_bytes image machine process direction) →
       (step_bytes image machine process direction).leaves ≡ machine
@@ -132,7 +136,8 @@ pub record Demand2 (b : LentBytes) : Type 1 where
       Shows (program b) (left b p 1) t.configuration t.annotation
   -- "the cause graph deciding which undo is allowed",
   pub graph_decides : (p : ℕ) → code b p 1 ≡ 0 → may_go_back (program b) (shown_by b).history (newest_node (shown_by b).history p) ≡ true
-  -- "over 32-bit values": what an operator or an update of the rules makes of words is the word that it means of their signed numbers (rules' Meaning),
+  -- "over 32-bit values": what an operator or an update of the rules makes of words is the word that it means of their signed numbers
+  -- (rules' Meaning),
   -- and words mean all of -2 ^ 31 to 2 ^ 31 - 1.
   pub values : SignedValues
   -- "A step is refused only where those rules or a stated limit refuse it." 26 is the history's limit; 28 never comes.

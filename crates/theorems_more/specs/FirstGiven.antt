@@ -18,8 +18,10 @@ use Rattle.rules.specs.Machine.{Machine, begin, end, standing, children, memory_
 use Rattle.rules.specs.Fits.{fits, is_live, entry_block, exit_block}
 use Rattle.rules.specs.Cause.{holds}
 use Rattle.rules.specs.Leaf.{Tried, made, refused, after, Moved, entry_place, exit_place, leaf_forward, leaf_undo}
-use Rattle.rules.specs.Step.{waits, crowded, fork, undo_fork, merge, undo_merge, leaf_step, undo_leaf, forward_childless, forward, undo_childless, undo}
-use Rattle.rules.specs.Words.{Outcome, refuse, accept, judged_then, read_then, on_image, start_in, start, step_of, finished, step_at, step_in, step, words_of, to_bytes, has_words, start_bytes_in, start_bytes, step_bytes_in, step_bytes}
+use Rattle.rules.specs.Step.{waits, crowded, fork, undo_fork, merge, undo_merge, leaf_step, undo_leaf, forward_childless, forward}
+use Rattle.rules.specs.Step.{undo_childless, undo}
+use Rattle.rules.specs.Words.{Outcome, refuse, accept, judged_then, read_then, on_image, start_in, start, step_of, finished, step_at}
+use Rattle.rules.specs.Words.{step_in, step, words_of, to_bytes, has_words, start_bytes_in, start_bytes, step_bytes_in, step_bytes}
 use Rattle.rules.specs.List.{code_of, rows_of, list_in, list, list_bytes_in, list_bytes}
 use Rattle.rules.specs.declared.Block.{Block}
 use Rattle.rules.specs.declared.Judgement.{Judgement}
@@ -29,7 +31,9 @@ use Rattle.laws.proofs.Search.{lowest-none, lowest-found}
 use Rattle.laws.proofs.Lists.{pick_true, pick-false}
 use Rattle.theorems.specs.Held.{some_below_so, below-some}
 use Rattle.theorems_more.specs.Bytes.Words.{length-words}
-use Rattle.rules.specs.RefusalTable.{Refusal, row, first_given, fault_code, is_fault, blocks_read, program_in, nine_on, judging, starting, listing, placed, refusal_in, is_met, met_code, met_ahead, met_back, trying, stepping, start_table, step_table, list_table, start_bytes_table, step_bytes_table, list_bytes_table}
+use Rattle.rules.specs.RefusalTable.{Refusal, row, first_given, fault_code, is_fault, blocks_read, program_in, nine_on, judging, starting}
+use Rattle.rules.specs.RefusalTable.{listing, placed, refusal_in, is_met, met_code, met_ahead, met_back, trying, stepping, start_table}
+use Rattle.rules.specs.RefusalTable.{step_table, list_table, start_bytes_table, step_bytes_table, list_bytes_table}
 
 -- ---- what is tried in turn
 -- the lowest bad block is there just where some block is bad
@@ -159,7 +163,8 @@ module _ (program : List Block) (m : Machine) (p : ℕ) (here : Place) where
       (crowded m (called program (exit_block program here))) (entry_place m.memory (block_of program (exit_block program here)).entry) _
       (leaf_undo m.memory here (block_of program (exit_block program here))) _ _)))
 
-  step-of_first : (ahead : Bool) → code_of (pick ahead (forward program m p here) (undo program m p here)) ≡ first_given (trying program m p here ahead)
+  step-of_first : (ahead : Bool) →
+      code_of (pick ahead (forward program m p here) (undo program m p here)) ≡ first_given (trying program m p here ahead)
   unfolding pick
   step-of_first true = forward-first
   step-of_first false = undo-first
@@ -216,7 +221,8 @@ whole : (bytes : List ℕ) (n : ℕ) → has_words bytes n ≡ true → eqb (len
 whole bytes n h = eqb_same (length (words_of bytes)) n (length-words bytes n (eqb-true (length bytes) (4 * n) h))
 
 step-bytes_in : (bytes : List ℕ) (p d : ℕ) (program : List Block) →
-    (step_bytes_in bytes p d program).answer.code ≡ first_given (row 16 (not (has_words bytes machine_words)) ∷ after_lengths program (words_of bytes) p d)
+    (step_bytes_in bytes p d program).answer.code ≡ first_given
+    (row 16 (not (has_words bytes machine_words)) ∷ after_lengths program (words_of bytes) p d)
 unfolding step_bytes_in to_bytes first_given
 step-bytes_in bytes p d program = go (bool_cases (has_words bytes machine_words))
   where
@@ -228,12 +234,14 @@ step-bytes_in bytes p d program = go (bool_cases (has_words bytes machine_words)
         (pick (has_words bytes machine_words) (to_bytes (step_in (words_of bytes) p d program)) (refuse 16 0 bytes)).answer.code
         ≡ pick (not (has_words bytes machine_words)) 16 rest
     go (inl h) =
-        ap (λ (o : Outcome (List ℕ)). o.answer.code) (pick_true (has_words bytes machine_words) (to_bytes (step_in (words_of bytes) p d program)) (refuse 16 0 bytes) h)
+        ap (λ (o : Outcome (List ℕ)). o.answer.code)
+        (pick_true (has_words bytes machine_words) (to_bytes (step_in (words_of bytes) p d program)) (refuse 16 0 bytes) h)
         ∙ in_first (words_of bytes) p d program
         ∙ pick-false (not (eqb (length (words_of bytes)) machine_words)) 16 rest (ap not (whole bytes machine_words h))
         ∙ sym (pick-false (not (has_words bytes machine_words)) 16 rest (ap not h))
     go (inr h) =
-        ap (λ (o : Outcome (List ℕ)). o.answer.code) (pick-false (has_words bytes machine_words) (to_bytes (step_in (words_of bytes) p d program)) (refuse 16 0 bytes) h)
+        ap (λ (o : Outcome (List ℕ)). o.answer.code)
+        (pick-false (has_words bytes machine_words) (to_bytes (step_in (words_of bytes) p d program)) (refuse 16 0 bytes) h)
         ∙ sym (pick_true (not (has_words bytes machine_words)) 16 rest (ap not h))
 
 start-bytes_in : (first bytes : List ℕ) (program : List Block) →
@@ -252,7 +260,8 @@ start-bytes_in first bytes program = go (bool_cases both)
         let x = and-true (has_words first memory_words) (has_words bytes machine_words) h in
         let y = true_and _ _ (whole first memory_words x.0) (whole bytes machine_words x.1) in
         ap (λ (o : Outcome (List ℕ)). o.answer.code) (pick_true both left (refuse 16 0 bytes) h)
-        ∙ start-in (eqb (length (words_of first)) memory_words && eqb (length (words_of bytes)) machine_words) (words_of bytes) (pack (started (words_of first)))
+        ∙ start-in (eqb (length (words_of first)) memory_words && eqb (length (words_of bytes)) machine_words) (words_of bytes)
+        (pack (started (words_of first)))
         ∙ pick-false (not (eqb (length (words_of first)) memory_words && eqb (length (words_of bytes)) machine_words)) 16 0 (ap not y)
         ∙ sym (pick-false (not both) 16 0 (ap not h))
     go (inr h) =
@@ -274,7 +283,8 @@ list-bytes_in bytes rows program = go (has_words bytes machine_words) refl
         (pick t (list_in (words_of bytes) rows program) (refuse 16 0 rows)).answer.code ≡ pick (not (t && sixty)) 16 rest
     go true h =
         ap (λ (o : Outcome (List Row)). o.answer.code) (pick_true true (list_in (words_of bytes) rows program) (refuse 16 0 rows) refl)
-        ∙ list-in (eqb (length (words_of bytes)) machine_words && sixty) (fits program (words_of bytes)) rows (rows_of program (view (words_of bytes)))
+        ∙ list-in (eqb (length (words_of bytes)) machine_words && sixty) (fits program (words_of bytes)) rows
+        (rows_of program (view (words_of bytes)))
         ∙ ap (λ (t : Bool). pick (not (t && sixty)) 16 rest) (whole bytes machine_words h)
     go false h =
         ap (λ (o : Outcome (List Row)). o.answer.code) (pick-false false (list_in (words_of bytes) rows program) (refuse 16 0 rows) refl)
@@ -292,7 +302,8 @@ pub record Answers : Type 0 where
   -- Listing answers the first of judging's, 16 and 17.
   pub list_answers : (image words : List ℕ) (rows : List Row) → (list image words rows).answer.code ≡ first_given (list_table image words rows)
   -- The same on bytes.
-  pub start_bytes_answers : (image first bytes : List ℕ) → (start_bytes image first bytes).answer.code ≡ first_given (start_bytes_table image first bytes)
+  pub start_bytes_answers : (image first bytes : List ℕ) →
+      (start_bytes image first bytes).answer.code ≡ first_given (start_bytes_table image first bytes)
   pub step_bytes_answers : (image bytes : List ℕ) (process direction : ℕ) →
       (step_bytes image bytes process direction).answer.code ≡ first_given (step_bytes_table image bytes process direction)
   pub list_bytes_answers : (image bytes : List ℕ) (rows : List Row) →
@@ -318,7 +329,8 @@ answers =
       start_answers = λ image first words. image-first image words (start_in first words) _ (start-in _ words (pack (started first)));
       step_answers = λ image words p d. image-first image words (step_in words p d) _ (in_first words p d (program_in image));
       list_answers = λ image words rows. image-first image rows (list_in words rows) _ (list-in _ _ rows (rows_of (program_in image) (view words)));
-      start_bytes_answers = λ image first bytes. image-first image bytes (start_bytes_in first bytes) _ (start-bytes_in first bytes (program_in image));
+      start_bytes_answers = λ image first bytes. image-first image bytes (start_bytes_in first bytes) _
+          (start-bytes_in first bytes (program_in image));
       step_bytes_answers = λ image bytes p d. image-first image bytes (step_bytes_in bytes p d) _ (step-bytes_in bytes p d (program_in image));
       list_bytes_answers = λ image bytes rows. image-first image rows (list_bytes_in bytes rows) _ (list-bytes_in bytes rows (program_in image));
     }

@@ -1,4 +1,5 @@
--- Judging as start, step and list hand it on is judging: of an image that judging refuses they answer its code and its place, and leave what was lent;
+-- Judging as start, step and list hand it on is judging: of an image that judging refuses they answer its code and its place, and leave
+-- what was lent;
 -- of an accepted one every place is 0, whatever the code. Whatever else is handed in, on words and on bytes. Assumes nothing.
 use Rattle.std.specs.Prelude.{◌≡◌, refl, Bool, List, [], ℕ}
 use Rattle.std.proofs.Math.Path.{ap}
@@ -10,7 +11,8 @@ use Rattle.rules.specs.Machine.{Machine, standing, view}
 use Rattle.rules.specs.Leaf.{Tried, made, refused}
 use Rattle.rules.specs.Read.{Reading, got, fault, decoded}
 use Rattle.rules.specs.Judge.{judged_blocks, judged_reading, judgement}
-use Rattle.rules.specs.Words.{Outcome, refuse, accept, judged_then, read_then, on_image, start_in, start, step_of, finished, step_at, step_in, step, words_of, to_bytes, start_bytes_in, start_bytes, step_bytes_in, step_bytes}
+use Rattle.rules.specs.Words.{Outcome, refuse, accept, judged_then, read_then, on_image, start_in, start, step_of, finished, step_at}
+use Rattle.rules.specs.Words.{step_in, step, words_of, to_bytes, start_bytes_in, start_bytes, step_bytes_in, step_bytes}
 use Rattle.rules.specs.List.{rows_of, list_in, list, list_bytes_in, list_bytes}
 use Rattle.rules.specs.declared.Block.{Block}
 use Rattle.rules.specs.declared.Judgement.{Judgement}
@@ -44,7 +46,8 @@ module _ {Lent : Type 0} where
   pick-zero true a b x y = x
   pick-zero false a b x y = y
 
-  on_zero : (image : List ℕ) (lent : Lent) (f : List Block → Outcome Lent) → IsAccepted image → AtZero (f (program_in image)) → AtZero (on_image image lent f)
+  on_zero : (image : List ℕ) (lent : Lent) (f : List Block → Outcome Lent) → IsAccepted image → AtZero (f (program_in image)) →
+      AtZero (on_image image lent f)
   on_zero image lent f e h = ap (λ (o : Outcome Lent). o.answer.place) (on_accepted image (accepted-image image e) lent f) ∙ h
 
 finished-zero : (words : List ℕ) (t : Tried Machine) → AtZero (finished words t)
@@ -74,7 +77,8 @@ list_zero words rows program =
 start_bytes_zero : (first bytes : List ℕ) (program : List Block) → AtZero (start_bytes_in first bytes program)
 unfolding start_bytes_in to_bytes
 start_bytes_zero first bytes program =
-    pick-zero _ (to_bytes (start_in (words_of first) (words_of bytes) program)) (refuse 16 0 bytes) (start_zero (words_of first) (words_of bytes) program) refl
+    pick-zero _ (to_bytes (start_in (words_of first) (words_of bytes) program)) (refuse 16 0 bytes)
+    (start_zero (words_of first) (words_of bytes) program) refl
 
 step_bytes_zero : (bytes : List ℕ) (p d : ℕ) (program : List Block) → AtZero (step_bytes_in bytes p d program)
 unfolding step_bytes_in to_bytes
@@ -88,7 +92,8 @@ list_bytes_zero bytes rows program = pick-zero _ (list_in (words_of bytes) rows 
 -- ---- the statement
 pub record HandedOn : Type 0 where
   -- a refused image: judging's code and place, and what was lent as handed in
-  pub start_hands : (image first words : List ℕ) (code place : ℕ) → judgement image ≡ Judgement.Refused code place → start image first words ≡ refuse code place words
+  pub start_hands : (image first words : List ℕ) (code place : ℕ) → judgement image ≡ Judgement.Refused code place →
+      start image first words ≡ refuse code place words
   pub step_hands : (image words : List ℕ) (process direction code place : ℕ) → judgement image ≡ Judgement.Refused code place →
       step image words process direction ≡ refuse code place words
   pub list_hands : (image words : List ℕ) (rows : List Row) (code place : ℕ) → judgement image ≡ Judgement.Refused code place →
@@ -104,7 +109,8 @@ pub record HandedOn : Type 0 where
   pub step_place : (image words : List ℕ) (process direction : ℕ) → IsAccepted image → (step image words process direction).answer.place ≡ 0
   pub list_place : (image words : List ℕ) (rows : List Row) → IsAccepted image → (list image words rows).answer.place ≡ 0
   pub start_bytes_place : (image first bytes : List ℕ) → IsAccepted image → (start_bytes image first bytes).answer.place ≡ 0
-  pub step_bytes_place : (image bytes : List ℕ) (process direction : ℕ) → IsAccepted image → (step_bytes image bytes process direction).answer.place ≡ 0
+  pub step_bytes_place : (image bytes : List ℕ) (process direction : ℕ) → IsAccepted image →
+      (step_bytes image bytes process direction).answer.place ≡ 0
   pub list_bytes_place : (image bytes : List ℕ) (rows : List Row) → IsAccepted image → (list_bytes image bytes rows).answer.place ≡ 0
 
 pub handed-on : HandedOn

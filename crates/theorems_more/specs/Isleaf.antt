@@ -82,7 +82,8 @@ module _ (program : List Block) (S : Sound program) (R : Rows) (tree : Tree R) (
 
 -- Of every configuration that a machine shows which passes 17.
 pub isleaf :
-    (program : List Block) (S : Sound program) (m : Machine) → machine_fits program m ≡ true → (C : Configuration) (A : Annotation) → Shows program m C A →
+    (program : List Block) (S : Sound program) (m : Machine) → machine_fits program m ≡ true → (C : Configuration) (A : Annotation) →
+    Shows program m C A →
     (p : ℕ) → IsLeaf C.processes p ↔ NoneBelow C.processes p
 isleaf program S m passed C A shown p =
     let R = standing m.rows in

@@ -1,4 +1,5 @@
--- The other numbers of judging: with a code from 9 on the place is the lowest block that gives it, or 0; an accepted image answers place 0, its block count
+-- The other numbers of judging: with a code from 9 on the place is the lowest block that gives it, or 0; an accepted image answers place 0,
+-- its block count
 -- and main's peak; a refused one 0 for both counts. Whatever the image; assumes nothing.
 use Rattle.std.specs.Prelude.{◌≡◌, Bool, List, ℕ, ◌<◌, ◌≤◌, length}
 use Rattle.std.proofs.Math.Path.{refl}

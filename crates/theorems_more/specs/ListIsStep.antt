@@ -22,7 +22,7 @@ use Rattle.rules.specs.declared.Row.{Row}
 use Rattle.laws.proofs.Lists.{pick_true, pick-false}
 use Rattle.theorems.specs.Tables.{Above, Sorted, standing_here, standing-past, standing-low}
 use Rattle.theorems.specs.Fitted.{fitted-order}
-use Rattle.theorems_more.specs.Subjects.{Bytes}
+use Rattle.theorems.specs.Refusals.{Bytes}
 use Rattle.theorems_more.specs.Bytes.Words.{step-on_words, list-on_words}
 use Rattle.theorems_more.specs.Refusing.FaultCodes.{Judged, accepted-image, on_accepted}
 use Rattle.rules.specs.RefusalTable.{program_in}
@@ -70,7 +70,8 @@ module _ (image words : List ℕ) (i : Judged image) (size : length words ≡ ma
   passed = (and-true (unused_zero words) (machine_fits program m) (and-true (counts_fit words) _ fit).1).1
 
   step_is :
-      (p d : ℕ) (here : Place) → ltb 1 d ≡ false → standing m.rows p ≡ some here → (step image words p d).answer.code ≡ code_of (step_of program m p here d)
+      (p d : ℕ) (here : Place) → ltb 1 d ≡ false → standing m.rows p ≡ some here →
+      (step image words p d).answer.code ≡ code_of (step_of program m p here d)
   unfolding step step_in
   step_is p d here k live =
       ap (λ (o : Outcome (List ℕ)). o.answer.code)

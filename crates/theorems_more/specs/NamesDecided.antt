@@ -3,7 +3,8 @@
 use Rattle.std.specs.Prelude.{◌≡◌, refl, ◌⊎◌, ◌↔◌, true, ◌||◌, ℕ, eqb}
 use Rattle.std.proofs.Common.{subst, inl, inr}
 use Rattle.theory.specs.Tests.{true_false, eqb_same, eqb-eq, or_cases, or_left, or_right}
-use Rattle.rules.specs.Names.{heap, operand_names, target_names, expression_names, entry_names, exit_names, semaphore_names, other_names, block_names, block_reads, instruction_writes, block_writes}
+use Rattle.rules.specs.Names.{heap, operand_names, target_names, expression_names, entry_names, exit_names, semaphore_names, other_names}
+use Rattle.rules.specs.Names.{block_names, block_reads, instruction_writes, block_writes}
 use Rattle.rules.specs.Resources.{InOperand, InTarget, InExpression, InEntry, InExit, InInstruction, Reads, Changes, Writes}
 use Rattle.rules.specs.declared.Operand.{Operand}
 use Rattle.rules.specs.declared.Target.{Target}

@@ -1,4 +1,5 @@
--- Were the values shown on the way back ever true? The machine after any string of calls, undos and refused ones included, is the one to which forward
+-- Were the values shown on the way back ever true? The machine after any string of calls, undos and refused ones included, is the one to
+-- which forward
 -- calls alone lead: those of its own history, in its order, made on a machine just started. On words and on bytes. Assumes what a run starts from.
 use Rattle.std.specs.Prelude.{◌≡◌, refl, true, ℕ, suc, ◌+◌, ◌≤◌, ltb}
 use Rattle.std.proofs.Math.Path.{sym, ap}
@@ -44,7 +45,8 @@ module _ (s : Subject) where
       let x = fired (forward (real s.program (sound s))) (configuration_of m) p e c h in
       go (forward-shape (real s.program (sound s)) (standing m.rows p) (kids (standing m.rows) p) m.memory x.out x.at)
     where
-      go : {o : _} → Forward (real s.program (sound s)) (standing m.rows p) (kids (standing m.rows) p) m.memory o → (here : Place) × (standing m.rows p ≡ some here)
+      go : {o : _} → Forward (real s.program (sound s)) (standing m.rows p) (kids (standing m.rows) p) m.memory o → (here : Place)
+          × (standing m.rows p ≡ some here)
       go (inl L) = (L.a, L.row_is)
       go (inr (inl F)) = (F.a, F.row_is)
       go (inr (inr M)) = (M.a, M.row_is)

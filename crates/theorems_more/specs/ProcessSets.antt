@@ -1,4 +1,5 @@
--- What a machine that passes code 17 shows is a process set, as 004 asks of every configuration: the root is active, with a process its parent, and with
+-- What a machine that passes code 17 shows is a process set, as 004 asks of every configuration: the root is active, with a process its
+-- parent, and with
 -- child i of a process the children before it. Assumes an accepted image.
 use Rattle.std.specs.Prelude.{◌≡◌, refl, ◌⊎◌, ◌≢◌, true, List, [], ◌∷◌, ℕ, zero, suc, ◌/◌, ◌<◌, ◌≤◌}
 use Rattle.std.proofs.Common.{sym, ◌∙◌, subst, inl, inr, arith}
@@ -55,7 +56,8 @@ nth-before l (suc i) (suc j) v e lo lt = element_before l i j v e (omega arith)
 
 module _ (program : List Block) (S : Sound program) (R : Rows) (tree : Tree R) (well : Well program S R) where
   -- the parent of an active process is active, at run
-  pub parent-there : (q : ℕ) (a : Place) → R q ≡ some a → q ≢ root → (is_kid (parent q) q ≡ true) × ((b : Place) × (R (parent q) ≡ some b) × (b.stage ≡ run))
+  pub parent-there : (q : ℕ) (a : Place) → R q ≡ some a → q ≢ root → (is_kid (parent q) q ≡ true)
+      × ((b : Place) × (R (parent q) ≡ some b) × (b.stage ≡ run))
   parent-there q a e n = go (tree q a e)
     where
       go : (q ≡ 0) ⊎ (is_kid (q / 16) q ≡ true) → (is_kid (parent q) q ≡ true) × ((b : Place) × (R (parent q) ≡ some b) × (b.stage ≡ run))
@@ -103,6 +105,7 @@ module _ (program : List Block) (S : Sound program) (m : Machine) (passed : mach
 
 -- Every configuration that a machine shows which passes 17 is a process set.
 pub shown-process_set :
-    (program : List Block) (S : Sound program) (m : Machine) → machine_fits program m ≡ true → (C : Configuration) (A : Annotation) → Shows program m C A →
+    (program : List Block) (S : Sound program) (m : Machine) → machine_fits program m ≡ true → (C : Configuration) (A : Annotation) →
+    Shows program m C A →
     ProcessSet C.processes
 shown-process_set program S m passed C A shown = subst ProcessSet (sym (fun_ext shown.processes)) (process_set program S m passed)

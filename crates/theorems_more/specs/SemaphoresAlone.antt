@@ -92,7 +92,8 @@ module _ (program : List Block) (S : Sound program) (blocks peak : ℕ) (accepts
       one : semaphore program x ≡ true
       one = some_at (λ k. semaphore_names k.instruction x) program s.block s.inside (named-op _ x s.by)
 
-      go : (block_names (block_of program b) x ≡ true) ⊎ (semaphore_names (block_of program b).instruction x ≡ true) → IsOpOf (block_of program b).instruction x
+      go : (block_names (block_of program b) x ≡ true) ⊎ (semaphore_names (block_of program b).instruction x ≡ true) →
+          IsOpOf (block_of program b).instruction x
       go (inr k) = op_named (block_of program b).instruction x k
       go (inl k) =
           absurd

@@ -10,11 +10,9 @@ use Rattle.rules.specs.Words.{words_of, start_bytes, step_bytes}
 use Rattle.rules.specs.RefusalTable.{program_in}
 use Rattle.rules.specs.declared.Block.{Block}
 use Rattle.theorems.specs.Played.{Call}
+use Rattle.theorems.specs.Refusals.{Bytes}
 
--- the numbers of a list are bytes, as those of every lent slice of u8 are; they are words, below 2 ^ 32, as those of a slice of u32 are
-abbrev pub Bytes : List ℕ → Type 0
-Bytes l = each_of (λ b. ltb b 256) l ≡ true
-
+-- the numbers of a list are words, below 2 ^ 32, as those of every lent slice of u32 are
 abbrev pub Words : List ℕ → Type 0
 Words l = each_of (λ v. ltb v span) l ≡ true
 

@@ -1,4 +1,5 @@
--- 0 only where all is fit: a call that answers 0 was handed an accepted image, slices of the right lengths, a machine that passes 17, direction 0 or 1
+-- 0 only where all is fit: a call that answers 0 was handed an accepted image, slices of the right lengths, a machine that passes 17,
+-- direction 0 or 1
 -- and a live process; and no call answers a code above 28. On words and on bytes, whatever is handed in. Assumes nothing.
 use Rattle.std.specs.Prelude.{◌≡◌, refl, ◌↔◌, Bool, true, false, not, ◌&&◌, List, [], ◌∷◌, ◌++◌, ℕ, ◌*◌, ◌≤◌, length, eqb}
 use Rattle.std.proofs.Common.{sym, ap, ◌∙◌, arith, eqb-true, ltb-false}
@@ -14,10 +15,12 @@ use Rattle.rules.specs.Words.{start, step, words_of, has_words, start_bytes, ste
 use Rattle.rules.specs.List.{list, list_bytes}
 use Rattle.rules.specs.declared.Place.{Place}
 use Rattle.rules.specs.declared.Row.{Row}
-use Rattle.rules.specs.RefusalTable.{Refusal, first_given, program_in, judging, starting, listing, trying, stepping, start_table, step_table, list_table, start_bytes_table, step_bytes_table, list_bytes_table}
+use Rattle.rules.specs.RefusalTable.{Refusal, first_given, program_in, judging, starting, listing, trying, stepping, start_table}
+use Rattle.rules.specs.RefusalTable.{step_table, list_table, start_bytes_table, step_bytes_table, list_bytes_table}
 use Rattle.theorems_more.specs.Subjects.{IsAccepted}
 use Rattle.theorems_more.specs.FirstGiven.{answers}
-use Rattle.theorems_more.specs.Refusing.TableCodes.{NoneGiven, none-parts, first-most, first-zero, zero_first, judging-right, starting-right, listing-right, stepping-right}
+use Rattle.theorems_more.specs.Refusing.TableCodes.{NoneGiven, none-parts, first-most, first-zero, zero_first, judging-right}
+use Rattle.theorems_more.specs.Refusing.TableCodes.{starting-right, listing-right, stepping-right}
 
 -- ---- what 0 says
 none-judged : (image : List ℕ) → NoneGiven (judging image) → (numbers (judgement image)).code ≡ 0
@@ -155,11 +158,13 @@ pub record ZeroOnly : Type 0 where
 pub zero_only : ZeroOnly
 zero_only =
     record {
-      start_zero = λ image first words. start-iff image (length first) (length words) memory_words machine_words _ (answers.start_answers image first words);
+      start_zero = λ image first words. start-iff image (length first) (length words) memory_words machine_words _
+          (answers.start_answers image first words);
       step_zero = λ image words p d. step-only image words p d (length words) machine_words _ (answers.step_answers image words p d);
       undo_zero = λ image words p e.
           undoing_zero image (eqb (length words) machine_words) words p (sym (answers.step_answers image words p 1) ∙ e);
-      list_zero = λ image words rows. list-iff image words (length words) (length rows) machine_words most_rows _ (answers.list_answers image words rows);
+      list_zero = λ image words rows. list-iff image words (length words) (length rows) machine_words most_rows _
+          (answers.list_answers image words rows);
       start_bytes_zero = λ image first bytes.
           start-iff image (length first) (length bytes) (4 * memory_words) (4 * machine_words) _ (answers.start_bytes_answers image first bytes);
       step_bytes_zero = λ image bytes p d.
@@ -187,13 +192,19 @@ pub most : Most
 most =
     record {
       judge_most = λ image. at_most _ _ 15 (answers.judge_answers image) (first-most 15 (judging image) (judging-right 15 (omega arith) image));
-      start_most = λ image first words. at_most _ _ 16 (answers.start_answers image first words) (first-most 16 (start_table image first words) (starting-right image _));
-      step_most = λ image words p d. at_most _ _ 28 (answers.step_answers image words p d) (first-most 28 (step_table image words p d) (stepping-right image _ words p d));
-      list_most = λ image words rows. at_most _ _ 17 (answers.list_answers image words rows) (first-most 17 (list_table image words rows) (listing-right image _ words));
+      start_most = λ image first words. at_most _ _ 16 (answers.start_answers image first words)
+          (first-most 16 (start_table image first words) (starting-right image _));
+      step_most = λ image words p d. at_most _ _ 28 (answers.step_answers image words p d)
+          (first-most 28 (step_table image words p d) (stepping-right image _ words p d));
+      list_most = λ image words rows. at_most _ _ 17 (answers.list_answers image words rows)
+          (first-most 17 (list_table image words rows) (listing-right image _ words));
       start_bytes_most = λ image first bytes.
-          at_most _ _ 16 (answers.start_bytes_answers image first bytes) (first-most 16 (start_bytes_table image first bytes) (starting-right image _));
+          at_most _ _ 16 (answers.start_bytes_answers image first bytes)
+          (first-most 16 (start_bytes_table image first bytes) (starting-right image _));
       step_bytes_most = λ image bytes p d.
-          at_most _ _ 28 (answers.step_bytes_answers image bytes p d) (first-most 28 (step_bytes_table image bytes p d) (stepping-right image _ (words_of bytes) p d));
+          at_most _ _ 28 (answers.step_bytes_answers image bytes p d)
+          (first-most 28 (step_bytes_table image bytes p d) (stepping-right image _ (words_of bytes) p d));
       list_bytes_most = λ image bytes rows.
-          at_most _ _ 17 (answers.list_bytes_answers image bytes rows) (first-most 17 (list_bytes_table image bytes rows) (listing-right image _ (words_of bytes)));
+          at_most _ _ 17 (answers.list_bytes_answers image bytes rows)
+          (first-most 17 (list_bytes_table image bytes rows) (listing-right image _ (words_of bytes)));
     }

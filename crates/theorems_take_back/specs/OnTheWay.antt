@@ -225,7 +225,8 @@ module _ (program : List Block) (S : Sound program) where
   CalledAll m [] m' = m ≡ m'
   CalledAll m (p ∷ ps) m' = (machine_fits program m ≡ true) × (m₁ : Machine) × UndoneBy program S m p m₁ × CalledAll m₁ ps m'
 
-  module _ (m₀ : Machine) (e : Kept) (f : First m₀ e) (z : e.identifier ≡ 0) (rest : List Taken) (known : All (Φ program S) Known (entry_of e ∷ rest)) where
+  module _ (m₀ : Machine) (e : Kept) (f : First m₀ e) (z : e.identifier ≡ 0) (rest : List Taken)
+      (known : All (Φ program S) Known (entry_of e ∷ rest)) where
     abbrev base : Configuration
     base = configuration_of m₀
 
@@ -241,7 +242,8 @@ module _ (program : List Block) (S : Sound program) where
         (depends program S) x t (all-depend x (all t) (ap (λ (v : Taken). v.process) xe ∙ z) k) cl))
     still_fits m (stays x ∷ t) r same al cl left =
         let xe : x ≡ entry_of e = cc in
-        let g : Gives program S base (x ∷ kept t) (configuration_of m) = subst (λ (l : List Taken). Gives program S base l (configuration_of m)) (sym same) r.gives in
+        let g : Gives program S base (x ∷ kept t) (configuration_of m) =
+        subst (λ (l : List Taken). Gives program S base l (configuration_of m)) (sym same) r.gives in
         let st : ahead program S base e.identifier ≡ some (entry_of e, g.0) =
         subst (λ (v : Taken). ahead program S base v.process ≡ some (v, g.0)) xe g.1 in
         let q =
@@ -266,12 +268,15 @@ module _ (program : List Block) (S : Sound program) where
     called-all (p ∷ ps) m m' marks r same al cl x =
         let y = followed program S base m marks p x.0 r same x.1 in
         let u = y.undoes in
-        let g : Gives program S base (kept marks) (configuration_of m) = subst (λ (l : List Taken). Gives program S base l (configuration_of m)) (sym same) r.gives in
+        let g : Gives program S base (kept marks) (configuration_of m) =
+        subst (λ (l : List Taken). Gives program S base l (configuration_of m)) (sym same) r.gives in
         let cl₁ =
-        undone-closed (Φ program S) (ahead program S) (behind program S) (Ok (real program S)) (mark (real program S)) (laws program S) (kin program S)
+        undone-closed (Φ program S) (ahead program S) (behind program S) (Ok (real program S)) (mark (real program S)) (laws program S)
+        (kin program S)
         (trades program S) (depends program S) (decides program S) base r.base_ok (configuration_of m) (configuration_of x.0) marks y.left p g cl u in
         let al₁ = undone-all (configuration_of m) (configuration_of x.0) marks y.left p u ∙ al in
-        let left : kept marks ≡ [] → ⊥ = not_none (kept u.before) u.step (kept u.later) (kept marks) (ap kept u.was ∙ kept_append u.before (stays u.step ∷ u.later)) in (
+        let left : kept marks ≡ [] → ⊥ =
+        not_none (kept u.before) u.step (kept u.later) (kept marks) (ap kept u.was ∙ kept_append u.before (stays u.step ∷ u.later)) in (
           still_fits m marks r same al cl left,
           x.0,
           x.1,
@@ -287,7 +292,8 @@ module _ (program : List Block) (S : Sound program) where
 
   -- On a machine that passes codes 17 and 35, each string of undos that rules' undo accepts, 01's calls accept: code 17 never comes between.
   pub all-called :
-      (t : List Kept) (k : Kept) (m m₀ m' : Machine) (ps : List ℕ) → machine_fits program m ≡ true → Fine m.memory → EmptiedBy program S m (k ∷ t) m₀ →
+      (t : List Kept) (k : Kept) (m m₀ m' : Machine) (ps : List ℕ) → machine_fits program m ≡ true → Fine m.memory →
+      EmptiedBy program S m (k ∷ t) m₀ →
       UndoneAll program S m ps m' → CalledAll m ps m'
   all-called t k m m₀ m' ps passed fine x y =
       let ok : Ok (real program S) (configuration_of m) = ((fitted program S m passed).0, fine) in

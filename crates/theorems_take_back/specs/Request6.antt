@@ -40,7 +40,8 @@ module _ (program : List Block) (S : Sound program) where
     module _ (u : List Kept) (k : Kept) (w : List Kept) (parts : m.history ≡ u ++ k ∷ w) where
       -- (1) Each string of accepted undos that removes the entry removes all that came of it.
       pub removes_all_of_it :
-          (ps : List ℕ) (m' : Machine) → CalledAll program S m ps m' → (a b : List (Mark Taken)) → removed program S m ps ≡ a ++ gone (entry_of k) ∷ b →
+          (ps : List ℕ) (m' : Machine) → CalledAll program S m ps m' → (a b : List (Mark Taken)) →
+          removed program S m ps ≡ a ++ gone (entry_of k) ∷ b →
           all a ≡ map entry_of u → all b ≡ map entry_of w → Covers (came_of program S u k w) (removed program S m ps)
       removes_all_of_it ps m' x =
           every_string program S (configuration_of passes.bottom) m root-of u k w parts ps m' (called-undone ps m m' x)
@@ -67,7 +68,8 @@ module _ (program : List Block) (S : Sound program) where
 
     -- (3) Two strings of accepted undos that remove the same leave the same machine: memory, rows and history.
     pub same-machine_left :
-        (ps qs : List ℕ) (m' m'' : Machine) → CalledAll program S m ps m' → CalledAll program S m qs m'' → removed program S m ps ≡ removed program S m qs →
+        (ps qs : List ℕ) (m' m'' : Machine) → CalledAll program S m ps m' → CalledAll program S m qs m'' →
+        removed program S m ps ≡ removed program S m qs →
         m' ≡ m''
     same-machine_left ps qs m' m'' x y e =
         one_left program S (configuration_of passes.bottom) m root-of ps qs m' m'' (called-undone ps m m' x) (called-undone qs m m'' y) e
@@ -87,7 +89,8 @@ module _ (program : List Block) (S : Sound program) where
         }
 
     -- (5) Undos keep a reached machine reached: demand 3 counts the call as the undos it makes.
-    pub stays-reached : (ps : List ℕ) (m m' : Machine) → Reached program S memory fine m → CalledAll program S m ps m' → Reached program S memory fine m'
+    pub stays-reached : (ps : List ℕ) (m m' : Machine) → Reached program S memory fine m → CalledAll program S m ps m' →
+        Reached program S memory fine m'
     stays-reached [] m m' r x = subst (Reached program S memory fine) x r
     stays-reached (p ∷ ps) m m' r x =
         stays-reached ps x.1 m' (reached-undo program S memory fine m p x.2.here x.2.live r x.1 x.2.undone) x.3

@@ -17,7 +17,8 @@ use Rattle.theory.specs.Machine.{mark, named}
 use Rattle.theory.specs.Optional.{onto}
 use Rattle.rules.specs.Base.{pick, some_of, each_of}
 use Rattle.rules.specs.Machine.{Kept, Machine, begin, standing}
-use Rattle.rules.specs.Fits.{exit_block, or_else, newest, is_block, newest_fits, kept_fits, parent_fits, own_fits, children_fit, row_fits, ascending, root_fits, machine_fits}
+use Rattle.rules.specs.Fits.{exit_block, or_else, newest, is_block, newest_fits, kept_fits, parent_fits, own_fits, children_fit, row_fits}
+use Rattle.rules.specs.Fits.{ascending, root_fits, machine_fits}
 use Rattle.rules.specs.Cause.{holds}
 use Rattle.rules.specs.declared.Block.{Block}
 use Rattle.rules.specs.declared.Place.{Place}
@@ -111,7 +112,8 @@ module _ (program : List Block) (S : Sound program) where
       go none e g = absurd (none-some g)
       go (some a) e g = at (exit_at program a) refl g
         where
-          at : (o : Option ℕ) → exit_at program a ≡ o → onto (λ (b : ℕ). record { process = q; block = b }) o ≡ some x → New (map entry_of h) x × (x.process ≡ q)
+          at : (o : Option ℕ) → exit_at program a ≡ o → onto (λ (b : ℕ). record { process = q; block = b }) o ≡ some x →
+              New (map entry_of h) x × (x.process ≡ q)
           at none y w = absurd (none-some w)
           at (some b) y w =
               let z = exit-some program S a b y in
@@ -160,7 +162,8 @@ module _ (program : List Block) (S : Sound program) where
             sym (newest-before h k q (λ y. true_false (eqb_same q k.identifier (sym y)) o.0)) ∙ ap (λ (l : List Kept). newest l q) (sym parts) ∙ v
 
     -- and there it is asked
-    pub asked : machine_fits program m₁ ≡ true → (q : ℕ) (a : Place) → standing m₁.rows q ≡ some a → newest_fits program m₁.history (row_at q a) ≡ true
+    pub asked : machine_fits program m₁ ≡ true → (q : ℕ) (a : Place) → standing m₁.rows q ≡ some a →
+        newest_fits program m₁.history (row_at q a) ≡ true
     unfolding machine_fits row_fits
     asked p₁ q a e =
         let x = and-true (ascending m₁.rows) _ p₁ in

@@ -17,7 +17,8 @@ use Rattle.rules.specs.Base.{pick, some_of}
 use Rattle.rules.specs.Machine.{Kept, Machine, standing}
 use Rattle.rules.specs.Fits.{machine_fits}
 use Rattle.rules.specs.Leaf.{Tried, made, refused}
-use Rattle.rules.specs.TakeBack.{is_under, in_line, shares_written, comes_of, goes_from, goes, goers, undo_at, then_all, undo_all, newest_by, and_then, empties}
+use Rattle.rules.specs.TakeBack.{is_under, in_line, shares_written, comes_of, goes_from, goes, goers, undo_at, then_all, undo_all}
+use Rattle.rules.specs.TakeBack.{newest_by, and_then, empties}
 use Rattle.rules.specs.declared.Block.{Block}
 use Rattle.rules.specs.declared.Place.{Place}
 use Rattle.laws.specs.Conflict.{conflicts}

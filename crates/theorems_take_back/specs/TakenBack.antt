@@ -16,7 +16,8 @@ use Rattle.theorems.specs.Tables.{same_rows}
 use Rattle.theorems.specs.Forward.{Configuration, configuration_of, entry_of, ahead}
 use Rattle.theorems.specs.Backward.{behind}
 use Rattle.theorems.specs.Reached.{map-append}
-use Rattle.theorems_take_back.specs.Rooted.{Φ, laws, Gives, Rooted, kin, depends, decides, trades, UndoneBy, Un, followed, accepts, kept_of, kept-entries}
+use Rattle.theorems_take_back.specs.Rooted.{Φ, laws, Gives, Rooted, kin, depends, decides, trades, UndoneBy, Un, followed, accepts, kept_of}
+use Rattle.theorems_take_back.specs.Rooted.{kept-entries}
 
 module _ (program : List Block) (S : Sound program) where
   -- a string of accepted undos
@@ -111,9 +112,11 @@ module _ (program : List Block) (S : Sound program) where
           let t = traced base ps m (before m) m' r same₀ x in
           let l : t.left ≡ a ++ gone (entry_of k) ∷ b = gone-all ps (configuration_of m') t.left t.undoes ∙ e in
           let y = subst (λ (z : List (Mark Taken)). Uns (configuration_of m) (before m) ps (configuration_of m') z) l t.undoes in
-          let z = subst (λ (h : List Taken). Uns (configuration_of m) (whole h) ps (configuration_of m') (a ++ gone (entry_of k) ∷ b)) taken-apart y in
+          let z = subst (λ (h : List Taken). Uns (configuration_of m) (whole h) ps (configuration_of m')
+          (a ++ gone (entry_of k) ∷ b)) taken-apart y in
           let q =
-          removes_all (Φ program S) (ahead program S) (behind program S) (Ok (real program S)) (mark (real program S)) (laws program S) (kin program S)
+          removes_all (Φ program S) (ahead program S) (behind program S) (Ok (real program S)) (mark (real program S)) (laws program S)
+          (kin program S)
           (trades program S) (depends program S) (decides program S) base r.base_ok (configuration_of m) (configuration_of m') (map entry_of u)
           (entry_of k) (map entry_of w) ps a b gives-parts z ea eb in
           subst (λ (h : List (Mark Taken)). Covers (came_of u k w) h) (sym e) q

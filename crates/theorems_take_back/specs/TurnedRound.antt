@@ -16,13 +16,15 @@ use Rattle.theorems.specs.Parts.{exit_at, calls, into_of, label_of, home_of, Sta
 use Rattle.theorems.specs.Sites.{entry_in, entry-block, exit-block, entry-holds, exit-holds, entry-once, begin-framed, count-some, out-run, at-end}
 use Rattle.theorems.specs.Leaves.{same_place, back-of, back-forward, entry-held, inverse-fair}
 use Rattle.theorems.specs.Acts.{act-fine}
-use Rattle.theorems.specs.Program.{Sound, real, exit-some, home-outer, entry-home, exit_home, call-in_image, at_from, picked_none, block-fair, begin-standing, unleaf-made, made-leaf}
+use Rattle.theorems.specs.Program.{Sound, real, exit-some, home-outer, entry-home, exit_home, call-in_image, at_from, picked_none}
+use Rattle.theorems.specs.Program.{block-fair, begin-standing, unleaf-made, made-leaf}
 use Rattle.theorems.specs.Stands.{to_one}
 use Rattle.theorems.specs.PaperAhead.{entry_known}
 
 module _ (program : List Block) (S : Sound program) where
   -- the label of an entry is some block's exit
-  leads_back : (b l : ℕ) → b < length program → 1 ≤ times l (entry_labels (block_of program b).entry) → exit_block program (place l run) < length program
+  leads_back : (b l : ℕ) → b < length program → 1 ≤ times l (entry_labels (block_of program b).entry) →
+      exit_block program (place l run) < length program
   leads_back b l lt h =
       let o = entry-once program S.passes b l lt h in
       let s = count-some (λ k. exit_labels k.exit) l program (omega (arith, o.left)) in
@@ -37,7 +39,8 @@ module _ (program : List Block) (S : Sound program) where
       ahead = subst (λ (k : ℕ). k < length program) (sym (entry-block program S.passes a b lt h)) lt
 
       go :
-          ((a.stage ≡ run) × (1 ≤ times a.label (entry_labels (block_of program b).entry))) ⊎ ((a.stage ≡ begin) × (1 ≤ times a.label (begin_labels (block_of program b).entry))) → Standing program a
+          ((a.stage ≡ run) × (1 ≤ times a.label (entry_labels (block_of program b).entry))) ⊎
+          ((a.stage ≡ begin) × (1 ≤ times a.label (begin_labels (block_of program b).entry))) → Standing program a
       go (inl x) =
           let same : place a.label run ≡ a = sym (same_place a (place a.label run) refl x.0) in
           inr (inl (x.0, ahead, subst (λ (q : Place). exit_block program q < length program) same (leads_back b a.label lt x.1)))
@@ -56,11 +59,14 @@ module _ (program : List Block) (S : Sound program) where
   end-standing : (b i l : ℕ) → calls program b ≡ true → label_of program b i ≡ some l → Standing program (place l end)
   end-standing b i l c h = inr (inr (refl, go (begin-standing program S b i l c h)))
     where
-      ends : (d : ℕ) → d < length program → entry_holds (block_of program d).entry (place l begin) ≡ true → exit_block program (place l end) < length program
+      ends : (d : ℕ) → d < length program → entry_holds (block_of program d).entry (place l begin) ≡ true →
+          exit_block program (place l end) < length program
       ends d lt k = at (entry_in (block_of program d).entry (place l begin) k)
         where
           at :
-              (((place l begin).stage ≡ run) × (1 ≤ times l (entry_labels (block_of program d).entry))) ⊎ (((place l begin).stage ≡ begin) × (1 ≤ times l (begin_labels (block_of program d).entry))) → exit_block program (place l end) < length program
+              (((place l begin).stage ≡ run) × (1 ≤ times l (entry_labels (block_of program d).entry))) ⊎
+              (((place l begin).stage ≡ begin) × (1 ≤ times l (begin_labels (block_of program d).entry))) →
+              exit_block program (place l end) < length program
           at (inl x) = absurd (let z : ◌≡◌ {A = ℕ} 0 1 = x.0 in omega arith)
           at (inr x) =
               let o = begin-framed program S.passes d l lt x.1 in

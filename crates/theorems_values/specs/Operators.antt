@@ -1,7 +1,9 @@
 -- Every operator, `!` and every update makes of words just the word that it means of their signed numbers (rules' Meaning), and no other word is
 -- meant. Assumes of the words that they are below 2 ^ 32.
-use Rattle.std.specs.Prelude.{ℕ, zero, suc, ◌+◌, ◌*◌, ◌-◌, ◌/◌, ◌%◌, ◌^◌, ◌<◌, ◌≤◌, ◌≡◌, refl, ◌⊎◌, ◌≢◌, Bool, true, false, not, ◌&&◌, ◌||◌, ltb, eqb, ℤ, negsuc, ◌+ℤ◌}
-use Rattle.std.proofs.Common.{sym, ap₂, ◌∙◌, subst, div-add-mod', pow-suc, mul_comm, arith, ltb-true, ltb-false, leb-true, lt-ltb, le-ltb, le-leb, eqb-true}
+use Rattle.std.specs.Prelude.{ℕ, zero, suc, ◌+◌, ◌*◌, ◌-◌, ◌/◌, ◌%◌, ◌^◌, ◌<◌, ◌≤◌, ◌≡◌, refl, ◌⊎◌, ◌≢◌, Bool, true, false, not, ◌&&◌, ◌||◌}
+use Rattle.std.specs.Prelude.{ltb, eqb, ℤ, negsuc, ◌+ℤ◌}
+use Rattle.std.proofs.Common.{sym, ap₂, ◌∙◌, subst, div-add-mod', pow-suc, mul_comm, arith, ltb-true, ltb-false, leb-true, lt-ltb, le-ltb}
+use Rattle.std.proofs.Common.{le-leb, eqb-true}
 use Rattle.std.proofs.Math.Path.{ap}
 use Rattle.std.proofs.Math.Logic.{inl, inr}
 use Rattle.std.proofs.Math.Nat.{div-div-eq-div-mul}
@@ -18,7 +20,7 @@ use Rattle.rules.specs.Meaning.{TruthOf, AtMost, Below, IsTrue, bit, Bits, Means
 use Rattle.rules.specs.declared.Operator.{Operator}
 use Rattle.rules.specs.declared.Change.{Change}
 use Rattle.laws.proofs.Words.{xor_below}
-use Rattle.theorems_values.specs.Signed.{word-signed, plus-signed, minus-signed}
+use Rattle.laws.proofs.Signed.{word-signed, plus-signed, minus-signed}
 
 -- ---- tests that decide them
 gives : (b : Bool) (P : Type 0) → (b ≡ true → P) → (b ≡ false → P → ⊥) → TruthOf P (flag b)

@@ -1,5 +1,7 @@
--- The theorem `signed-values`: words mean signed 32-bit numbers, and each of the eleven operators, `!` and each of the three updates makes of words just
--- the word that it means of their numbers (rules' Meaning, in which nothing of `applied`, `negated` and `changed` stands). An update and its inverse cancel.
+-- The theorem `signed-values`: words mean signed 32-bit numbers, and each of the eleven operators, `!` and each of the three updates makes
+-- of words just
+-- the word that it means of their numbers (rules' Meaning, in which nothing of `applied`, `negated` and `changed` stands). An update and
+-- its inverse cancel.
 use Rattle.std.specs.Prelude.{ℕ, ◌-◌, ◌^◌, ◌<◌, ◌≡◌, ◌↔◌, ℤ, pos}
 use Rattle.std.proofs.Common.{sym, subst}
 use Rattle.std.specs.Int.Signed.{mag}
@@ -10,7 +12,7 @@ use Rattle.rules.specs.declared.Operator.{Operator}
 use Rattle.rules.specs.declared.Change.{Change}
 use Rattle.laws.proofs.Words.{applied-below, negated-below, changed-below, changed-back}
 use Rattle.theorems_values.specs.Operators.{operators-mean, not_means, changes-mean, meant-applied, meant-changed}
-use Rattle.theorems_values.specs.Signed.{word_below, word-signed, signed_word}
+use Rattle.laws.proofs.Signed.{word_below, word-signed, signed_word}
 
 pub record SignedValues : Type 0 where
   -- `signed` and `word_of` are each other's inverse, between words and the numbers from -2 ^ 31 to 2 ^ 31 - 1

@@ -72,7 +72,8 @@ module _ (Φ : Feet) where
 
       -- an entry that all later ones depend on goes last: while it is gone, nothing stays
       pub goes_last :
-          (dep : Entry → Entry → Bool) (e : Entry) (m : List (Mark Entry)) → All Φ (λ f. dep e f ≡ true) (all m) → Closed dep (gone e ∷ m) → kept m ≡ []
+          (dep : Entry → Entry → Bool) (e : Entry) (m : List (Mark Entry)) → All Φ (λ f. dep e f ≡ true) (all m) →
+          Closed dep (gone e ∷ m) → kept m ≡ []
       goes_last dep e m d c = go m d c.0
         where
           go : (m : List (Mark Entry)) → All Φ (λ f. dep e f ≡ true) (all m) → Follows dep e m → kept m ≡ []

@@ -74,7 +74,8 @@ module _ {E : Type 0} where
     follow-closed S (f ∷ w) = go (follow-closed (f ∷ S) w) (follow-closed S w) (bool_cases (hit dep S f))
       where
         go :
-            Closed dep (follow dep (f ∷ S) w) × FollowAll (f ∷ S) (follow dep (f ∷ S) w) → Closed dep (follow dep S w) × FollowAll S (follow dep S w) →
+            Closed dep (follow dep (f ∷ S) w) × FollowAll (f ∷ S) (follow dep (f ∷ S) w) → Closed dep (follow dep S w)
+            × FollowAll S (follow dep S w) →
             (hit dep S f ≡ true) ⊎ (hit dep S f ≡ false) → Closed dep (follow dep S (f ∷ w)) × FollowAll S (follow dep S (f ∷ w))
         go i j (inl h) = rw h ((i.1.0, i.0), over-gone S f (follow dep (f ∷ S) w) i.1.1)
         go i j (inr h) = rw h (j.0, over-stays S f (follow dep S w) h j.1)

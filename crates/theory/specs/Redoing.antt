@@ -8,7 +8,8 @@ use Rattle.std.proofs.Math.Option.{Option, none, some}
 use Rattle.theory.specs.Tests.{some_inj, bool_cases, true_false, none-some}
 use Rattle.theory.specs.Local.{Taken, slot, slot-range, is_kid, kid-facts, Outcome, view, put, At, done, entry, fire, fired, put_self}
 use Rattle.theory.specs.Program.{Program}
-use Rattle.theory.specs.Shapes.{C, Backward, Kids, Unleaf, Unmerge, Unfork, at_begin, at_end, back, back-shape, empty, forward, has_kids, result, leaf-forward, fork-forward, merge-forward}
+use Rattle.theory.specs.Shapes.{C, Backward, Kids, Unleaf, Unmerge, Unfork, at_begin, at_end, back, back-shape, empty, forward, has_kids}
+use Rattle.theory.specs.Shapes.{result, leaf-forward, fork-forward, merge-forward}
 use Rattle.theory.specs.Framing.{view-kid}
 use Rattle.theory.specs.Family.{Family, Ok, OfLabel, OkRows, put_back, view-at, view_out, view-put}
 use Rattle.theory.specs.Undoing.{is-none}

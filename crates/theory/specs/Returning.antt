@@ -10,8 +10,10 @@ use Rattle.theory.specs.Histories.{Apart, Indep, All, NoneBy}
 use Rattle.theory.specs.Moving.{apart_none}
 use Rattle.theory.specs.Undoable.{free-apart, apart-free}
 use Rattle.theory.specs.Replay.{Step, Back, Runs, Lawful, runs-ok, step-det, unwind, undo-good, runs-split, mark-along}
-use Rattle.theory.specs.TakingBack.{Mark, stays, gone, all, kept, whole, Covers, follow, taken, Follows, Closed, some_by, gone_by, gone_by_all, newest_first, Undone, Undos}
-use Rattle.theory.specs.Marks.{all_append, kept_append, kept_whole, all_whole, all-follow, follow-closed, follow-least, closed_after, closed-whole, nothing-closed, covers_whole, closed-more}
+use Rattle.theory.specs.TakingBack.{Mark, stays, gone, all, kept, whole, Covers, follow, taken, Follows, Closed, some_by, gone_by}
+use Rattle.theory.specs.TakingBack.{gone_by_all, newest_first, Undone, Undos}
+use Rattle.theory.specs.Marks.{all_append, kept_append, kept_whole, all_whole, all-follow, follow-closed, follow-least, closed_after}
+use Rattle.theory.specs.Marks.{closed-whole, nothing-closed, covers_whole, closed-more}
 
 module _ (Φ : Feet) where
   open Φ use {Entry, process, reading, writing}
@@ -52,7 +54,8 @@ module _ (Φ : Feet) where
         abbrev Uns : C → List (Mark Entry) → List ℕ → C → List (Mark Entry) → Type 0
         Uns = Undos Φ backward
 
-        -- an entry that goes back is independent of all that is later: of its own process and of the resources by the graph's rule, of its kin by the machine's
+        -- an entry that goes back is independent of all that is later: of its own process and of the resources by the graph's rule, of its
+        -- kin by the machine's
         none-later :
             (s c c' : C) (e : Entry) (u : List Entry) → Ok s → Apart Φ e u → Rn s u c → Bk c e c' → All Φ (λ f. dep e f ≡ false) u
         none-later s c c' e [] o a r b = tt
@@ -188,7 +191,8 @@ module _ (Φ : Feet) where
               runs-one r'.0 c c' h (subst (λ z. Rn z h c) q.1 r.2) r'.2
 
           pub one-machine :
-              (c c' c'' : C) (h : List Entry) (m : List (Mark Entry)) (ps qs : List ℕ) → Rn base h c → Uns c (whole h) ps c' m → Uns c (whole h) qs c'' m →
+              (c c' c'' : C) (h : List Entry) (m : List (Mark Entry)) (ps qs : List ℕ) → Rn base h c → Uns c (whole h) ps c' m →
+              Uns c (whole h) qs c'' m →
               c' ≡ c''
           one-machine c c' c'' h m ps qs r x y =
               let r₁ : Rn base (kept (whole h)) c = subst (λ (l : List Entry). Rn base l c) (sym (kept_whole h)) r in
@@ -197,7 +201,8 @@ module _ (Φ : Feet) where
         -- ---- (2) undone newest first
         -- a step that is independent of all that is later could have been made last
         past :
-            (s s₁ c : C) (e : Entry) (u : List Entry) → Ok s → All Φ (λ f. dep e f ≡ false) u → St s e s₁ → Rn s₁ u c → (s₂ : C) × Rn s u s₂ × St s₂ e c
+            (s s₁ c : C) (e : Entry) (u : List Entry) → Ok s → All Φ (λ f. dep e f ≡ false) u → St s e s₁ → Rn s₁ u c → (s₂ : C)
+            × Rn s u s₂ × St s₂ e c
         past s s₁ c e [] o a st r = (s, refl, subst (λ z. St s e z) r st)
         past s s₁ c e (f ∷ u) o a st r =
             let t = T.trade s s₁ r.0 e f o (D.other e f a.0) (D.no_kin e f a.0) (D.indep e f a.0) st r.1 in

@@ -1,20 +1,10 @@
 -- The order of the signed numbers is that of the biased words, as the code compares them. Assumes nothing.
-use Rattle.std.proofs.Common.{◌≡◌, ℕ, suc, ◌-◌, ◌^◌, ◌<◌, ◌≤◌, Bool, true, false, ltb, leb, ℤ, pos, negsuc, sym, refl, arith, ltb-false, ltb-true, le-ltb, lt-ltb, le-leb, leb-false, leb-true}
+use Rattle.std.proofs.Common.{◌≡◌, ℕ, suc, ◌-◌, ◌<◌, ◌≤◌, Bool, true, false, ltb, leb, pos, negsuc, sym, refl, arith, le-ltb, lt-ltb, le-leb, leb-false, leb-true}
 use lib.Signed.{lt_z, le_z}
 use borrow.Author.Tests.{lt-leb}
-use Rattle.rules.specs.Base.{pick}
-use Rattle.rules.specs.Value.{width, span, signed, less, at_most}
+use Rattle.rules.specs.Value.{span, signed, less, at_most}
+use Rattle.laws.proofs.Signed.{by_sign}
 use Rattle.value.specs.Biased.{biased_of}
-
--- What is shown of a word below 2 ^ 31 as itself, and of one above as -(2 ^ 32 - a), holds of its signed number.
-pub by_sign :
-    (a : ℕ) (P : ℤ → Type 0) → (a < 2 ^ (width - 1) → P (pos a)) → (2 ^ (width - 1) ≤ a → P (negsuc (span - 1 - a))) → P (signed a)
-unfolding signed pick
-by_sign a P low high = go (ltb a (2 ^ (width - 1))) refl
-  where
-    go : (t : Bool) → ltb a (2 ^ (width - 1)) ≡ t → P (signed a)
-    go true e = rw e (low (ltb-true _ _ e))
-    go false e = rw e (high (ltb-false _ _ e))
 
 -- two tests of order agree where the orders do
 leb_iff : (a b c d : ℕ) → (a ≤ b → c ≤ d) → (c ≤ d → a ≤ b) → leb a b ≡ leb c d

@@ -11,7 +11,8 @@ pub returns-then-direction-eq0 : goal.returns-then-direction-eq0
 returns-then-direction-eq0 c =
     let s = c.args in
     let w = s.m.now in
-    plans_at (goes-forward (take s.n s.blocks) (view w) (process_at w s.row) (here_at w s.row) s.direction c.if-direction-eq0.true) c.forward_plan.ensures
+    plans_at (goes-forward (take s.n s.blocks) (view w) (process_at w s.row)
+    (here_at w s.row) s.direction c.if-direction-eq0.true) c.forward_plan.ensures
 
 pub masks-tables-requires : goal.masks-tables-requires
 masks-tables-requires c = (c.requires.1, blocks-fit c.args.blocks c.args.n c.requires.0.sound (omega arith))

@@ -13,7 +13,8 @@ returns-then-m-ne-WORDS c =
 pub returns-then-not-machine_fits : goal.returns-then-not-machine_fits
 returns-then-not-machine_fits c =
     let s = c.args in
-    refusing (code-17 (take s.n s.blocks) s.m.now s.process s.direction c.if-m-ne-WORDS.false (sym c.machine_fits.ensures ∙ c.if-not-machine_fits.true))
+    refusing (code-17 (take s.n s.blocks) s.m.now s.process s.direction c.if-m-ne-WORDS.false
+    (sym c.machine_fits.ensures ∙ c.if-not-machine_fits.true))
 
 pub returns-then-direction-gt1 : goal.returns-then-direction-gt1
 returns-then-direction-gt1 c =

@@ -10,8 +10,11 @@ use Rattle.act.proofs.exchange.Goals as goal
 
 pub exchange_at-requires : goal.exchange_at-requires
 exchange_at-requires c =
-    let q = c.target_place-in-At in
-    (c.requires.0, located_fit (Located.At c.in-At.at) c.in-At.ensures (target-in_memory _ _ c.requires.1), located_fit q.result q.ensures (target-in_memory _ _ c.requires.2))
+    let q = c.target_place-in-At in (
+      c.requires.0,
+      located_fit (Located.At c.in-At.at) c.in-At.ensures (target-in_memory _ _ c.requires.1),
+      located_fit q.result q.ensures (target-in_memory _ _ c.requires.2),
+    )
 
 pub returns-in-At : goal.returns-in-At
 unfolding exchange after located_shown

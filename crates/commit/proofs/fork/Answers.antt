@@ -23,8 +23,13 @@ insert-requires c =
     let h0 = holds-view w c.requires.0 in
     let p : ℕ = identifier_at (view w) a.row in
     let pe : c.identifier-p.result ≡ p = c.identifier-p.ensures ∙ live-identifier w a.row f.live in
-    let h1 = holds-moved h0 a.row a.q.label a.q.stage c.move_row.ensures f.live in
-    (long h1, omega (arith, live-count h1, f.at, length-row_at (view w).rows a.row a.q.label a.q.stage), omega (arith, live-count h1, f.rooms, length-row_at (view w).rows a.row a.q.label a.q.stage), f.few, omega (arith, pe, f.shallow))
+    let h1 = holds-moved h0 a.row a.q.label a.q.stage c.move_row.ensures f.live in (
+      long h1,
+      omega (arith, live-count h1, f.at, length-row_at (view w).rows a.row a.q.label a.q.stage),
+      omega (arith, live-count h1, f.rooms, length-row_at (view w).rows a.row a.q.label a.q.stage),
+      f.few,
+      omega (arith, pe, f.shallow),
+    )
 
 pub keep-requires : goal.keep-requires
 unfolding written_in moved inserted removed
@@ -39,7 +44,9 @@ keep-requires c =
     let lr = length-row_at (view w).rows a.row a.q.label a.q.stage in
     let at : a.first ≤ length (moved (view w) a.row a.q.label a.q.stage).rows = omega (arith, f.at, lr) in
     let rooms : length (moved (view w) a.row a.q.label a.q.stage).rows + a.names.count ≤ 64 = omega (arith, f.rooms, lr) in
-    let h2 = holds-inserted h1 a.first a.names.count (child_rows p 0 1 (named a.names)) (c.insert.ensures ∙ ap (λ (x : ℕ). inserted_rows c.move_row.new.m a.first a.names.count (pack_rows (child_rows x 0 1 (named a.names)))) pe) (sym (length-children p 0 1 (named a.names) ∙ named_count a.names f.few)) at rooms in
+    let h2 = holds-inserted h1 a.first a.names.count (child_rows p 0 1 (named a.names))
+    (c.insert.ensures ∙ ap (λ (x : ℕ). inserted_rows c.move_row.new.m a.first a.names.count
+    (pack_rows (child_rows x 0 1 (named a.names)))) pe) (sym (length-children p 0 1 (named a.names) ∙ named_count a.names f.few)) at rooms in
     (long h2, omega (arith, kept-count h2, f.room))
 
 pub returns : goal.returns
@@ -55,6 +62,8 @@ returns c =
     let lr = length-row_at (view w).rows a.row a.q.label a.q.stage in
     let at : a.first ≤ length (moved (view w) a.row a.q.label a.q.stage).rows = omega (arith, f.at, lr) in
     let rooms : length (moved (view w) a.row a.q.label a.q.stage).rows + a.names.count ≤ 64 = omega (arith, f.rooms, lr) in
-    let h2 = holds-inserted h1 a.first a.names.count (child_rows p 0 1 (named a.names)) (c.insert.ensures ∙ ap (λ (x : ℕ). inserted_rows c.move_row.new.m a.first a.names.count (pack_rows (child_rows x 0 1 (named a.names)))) pe) (sym (length-children p 0 1 (named a.names) ∙ named_count a.names f.few)) at rooms in
+    let h2 = holds-inserted h1 a.first a.names.count (child_rows p 0 1 (named a.names))
+    (c.insert.ensures ∙ ap (λ (x : ℕ). inserted_rows c.move_row.new.m a.first a.names.count
+    (pack_rows (child_rows x 0 1 (named a.names)))) pe) (sym (length-children p 0 1 (named a.names) ∙ named_count a.names f.few)) at rooms in
     let h3 = holds_kept h2 p a.block (c.keep.ensures ∙ ap (λ (x : ℕ). kept_entry c.insert.new.m x a.block) pe) f.room in
     h3.words

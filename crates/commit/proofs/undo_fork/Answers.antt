@@ -24,8 +24,11 @@ remove_rows-requires c =
     let f = c.requires.1 in
     let w = a.m.now in
     let h0 = holds-view w c.requires.0 in
-    let h1 = holds-moved h0 a.row a.q.label a.q.stage c.move_row.ensures f.live in
-    (long h1, omega (arith, live-count h1, h0.sized.rows64, length-row_at (view w).rows a.row a.q.label a.q.stage), omega (arith, live-count h1, f.at, length-row_at (view w).rows a.row a.q.label a.q.stage))
+    let h1 = holds-moved h0 a.row a.q.label a.q.stage c.move_row.ensures f.live in (
+      long h1,
+      omega (arith, live-count h1, h0.sized.rows64, length-row_at (view w).rows a.row a.q.label a.q.stage),
+      omega (arith, live-count h1, f.at, length-row_at (view w).rows a.row a.q.label a.q.stage),
+    )
 
 pub close_up-requires : goal.close_up-requires
 unfolding written_in moved inserted removed

@@ -33,7 +33,9 @@ close_up-requires c =
     let h0 = holds-view w c.requires.0 in
     let p : ℕ = identifier_at (view w) a.row in
     let pe : c.identifier-p.result ≡ p = c.identifier-p.ensures ∙ live-identifier w a.row f.live in
-    let h1 = holds-inserted h0 a.first a.names.count (child_rows p 2 1 (named a.names)) (c.insert.ensures ∙ ap (λ (x : ℕ). inserted_rows w a.first a.names.count (pack_rows (child_rows x 2 1 (named a.names)))) pe) (sym (length-children p 2 1 (named a.names) ∙ named_count a.names f.few)) f.at f.rooms in
+    let h1 = holds-inserted h0 a.first a.names.count (child_rows p 2 1 (named a.names))
+    (c.insert.ensures ∙ ap (λ (x : ℕ). inserted_rows w a.first a.names.count (pack_rows (child_rows x 2 1 (named a.names)))) pe)
+    (sym (length-children p 2 1 (named a.names) ∙ named_count a.names f.few)) f.at f.rooms in
     (long h1, omega (arith, kept-count h1, h0.sized.history4096), omega (arith, kept-count h1, f.there))
 
 pub returns : goal.returns
@@ -45,6 +47,8 @@ returns c =
     let h0 = holds-view w c.requires.0 in
     let p : ℕ = identifier_at (view w) a.row in
     let pe : c.identifier-p.result ≡ p = c.identifier-p.ensures ∙ live-identifier w a.row f.live in
-    let h1 = holds-inserted h0 a.first a.names.count (child_rows p 2 1 (named a.names)) (c.insert.ensures ∙ ap (λ (x : ℕ). inserted_rows w a.first a.names.count (pack_rows (child_rows x 2 1 (named a.names)))) pe) (sym (length-children p 2 1 (named a.names) ∙ named_count a.names f.few)) f.at f.rooms in
+    let h1 = holds-inserted h0 a.first a.names.count (child_rows p 2 1 (named a.names))
+    (c.insert.ensures ∙ ap (λ (x : ℕ). inserted_rows w a.first a.names.count (pack_rows (child_rows x 2 1 (named a.names)))) pe)
+    (sym (length-children p 2 1 (named a.names) ∙ named_count a.names f.few)) f.at f.rooms in
     let h2 = holds-closed h1 a.entry c.close_up.ensures f.there in
     h2.words

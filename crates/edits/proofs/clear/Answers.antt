@@ -13,7 +13,8 @@ loop-i-init c = (omega arith, paste-zero c.args.dst.now c.args.at (zeros c.args.
 pub loop-i-preserved : goal.loop-i-preserved
 loop-i-preserved c = (
   omega arith,
-  ap (λ (d : List ℕ). set d (c.args.at + c.loop-i.i) 0) c.loop-i.invariant.1 ∙ clear-turn c.args.dst.now c.args.at c.args.n c.loop-i.i (omega arith) (omega arith),
+  ap (λ (d : List ℕ). set d (c.args.at + c.loop-i.i) 0) c.loop-i.invariant.1
+      ∙ clear-turn c.args.dst.now c.args.at c.args.n c.loop-i.i (omega arith) (omega arith),
 )
 
 pub returns : goal.returns
@@ -21,4 +22,5 @@ returns c =
     let e : c.loop-i.i ≡ c.args.n = omega arith in
     c.loop-i.invariant.1
     ∙ ap (λ (j : ℕ). paste c.args.dst.now c.args.at (zeros c.args.n) j) e
-    ∙ ap (λ (r : List ℕ). take c.args.at c.args.dst.now ++ r ++ drop (c.args.at + c.args.n) c.args.dst.now) (take_all c.args.n (zeros c.args.n) (le_of_eq (length-replicate c.args.n 0)))
+    ∙ ap (λ (r : List ℕ). take c.args.at c.args.dst.now ++ r ++ drop (c.args.at + c.args.n) c.args.dst.now)
+    (take_all c.args.n (zeros c.args.n) (le_of_eq (length-replicate c.args.n 0)))

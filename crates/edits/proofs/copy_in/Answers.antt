@@ -11,7 +11,8 @@ loop-i-init c = (omega arith, paste-zero c.args.dst.now c.args.at c.args.src.now
 pub loop-i-preserved : goal.loop-i-preserved
 loop-i-preserved c = (
   omega arith,
-  ap (λ (d : List ℕ). set d (c.args.at + c.loop-i.i) (get_or c.args.src.now c.loop-i.i 0)) c.loop-i.invariant.1 ∙ copy_turn c.args.dst.now c.args.src.now c.args.at c.loop-i.i (omega arith) (omega arith),
+  ap (λ (d : List ℕ). set d (c.args.at + c.loop-i.i) (get_or c.args.src.now c.loop-i.i 0)) c.loop-i.invariant.1
+      ∙ copy_turn c.args.dst.now c.args.src.now c.args.at c.loop-i.i (omega arith) (omega arith),
 )
 
 pub returns : goal.returns

@@ -13,7 +13,8 @@ loop-i-preserved c =
     let a = c.args in
     let l = c.loop-i in (
       omega arith,
-      ap (λ (d : List ℕ). set d (a.at + l.i) (get_or d (a.at + a.by + l.i) 0)) l.invariant.1 ∙ down_turn a.m.now a.at a.by a.n l.i (omega arith) (omega arith),
+      ap (λ (d : List ℕ). set d (a.at + l.i) (get_or d (a.at + a.by + l.i) 0)) l.invariant.1
+          ∙ down_turn a.m.now a.at a.by a.n l.i (omega arith) (omega arith),
     )
 
 pub returns : goal.returns

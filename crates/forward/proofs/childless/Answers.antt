@@ -21,6 +21,7 @@ returns-in-Nothing c program e =
     let a = c.args in
     let i = ap (λ (y : Block). is_call y.instruction) e ∙ not_called a.block.instruction c.call_of.ensures c.in-Nothing.is in
     plans_at
-    (ap (λ (y : Block). leaf_step (view a.m.now) (process_at a.m.now a.row) a.into (leaf_forward (view a.m.now).memory (here_at a.m.now a.row) y)) (sym e)
+    (ap (λ (y : Block). leaf_step (view a.m.now) (process_at a.m.now a.row) a.into
+    (leaf_forward (view a.m.now).memory (here_at a.m.now a.row) y)) (sym e)
     ∙ leaves program _ _ (here_at a.m.now a.row) a.into i)
     c.leaf.ensures

@@ -15,11 +15,13 @@ place-here-requires c = row-ready c.args.m.now c.args.row c.requires.0
 pub returns-in-Moves : goal.returns-in-Moves
 returns-in-Moves c =
     let a = c.args in
-    plans_at (ap (λ (q : Place). leaf_step (view a.m.now) (process_at a.m.now a.row) a.into (leaf_forward (view a.m.now).memory q a.block)) c.place-here.ensures)
+    plans_at (ap (λ (q : Place). leaf_step (view a.m.now) (process_at a.m.now a.row) a.into
+    (leaf_forward (view a.m.now).memory q a.block)) c.place-here.ensures)
     (plans_leaf a.m.now a.row c.requires.0 _ _ c.forward.ensures a.into c.in-Moves.is (omega arith))
 
 pub returns-in-Refused : goal.returns-in-Refused
 returns-in-Refused c =
     let a = c.args in
-    plans_at (ap (λ (q : Place). leaf_step (view a.m.now) (process_at a.m.now a.row) a.into (leaf_forward (view a.m.now).memory q a.block)) c.place-here.ensures)
+    plans_at (ap (λ (q : Place). leaf_step (view a.m.now) (process_at a.m.now a.row) a.into
+    (leaf_forward (view a.m.now).memory q a.block)) c.place-here.ensures)
     (refuses-leaf a.m.now a.row c.requires.0 _ _ c.forward.ensures a.into c.in-Refused.is)

@@ -15,4 +15,5 @@ loop-i-preserved c =
 pub returns : goal.returns
 returns c =
     let p = c.loop-i in
-    filled-all _ _ _ _ _ p.invariant.filled (omega arith) (length-up_from 0 all_nodes ∙ omega arith) (λ j l. get_or-up_from 0 all_nodes j (omega arith) ∙ zero-add j)
+    filled-all _ _ _ _ _ p.invariant.filled (omega arith) (length-up_from 0 all_nodes ∙ omega arith)
+    (λ j l. get_or-up_from 0 all_nodes j (omega arith) ∙ zero-add j)

@@ -11,7 +11,11 @@ loop-i-init c = record { within = omega arith; filled = filled_none _ _ }
 pub loop-i-preserved : goal.loop-i-preserved
 loop-i-preserved c =
     let p = c.loop-i in
-    record { within = omega arith; filled = filled_more _ _ _ _ _ p.invariant.filled (omega arith) (c.new_name-a.ensures ∙ ap (renamed _ _) (p.invariant.filled.rest p.i (omega arith))) }
+    record {
+      within = omega arith;
+      filled = filled_more _ _ _ _ _ p.invariant.filled (omega arith)
+          (c.new_name-a.ensures ∙ ap (renamed _ _) (p.invariant.filled.rest p.i (omega arith)));
+    }
 
 pub returns : goal.returns
 returns c =

@@ -19,7 +19,8 @@ loop-k-preserved c =
     let long : length c.args.f.labels ≡ 8 = search rules in
     record {
       within = omega arith;
-      raised = raised-more c.args.counts.now c.args.f.labels _ p.k c.index-l.result (omega arith) c.index-l.ensures.0 (omega arith) p.invariant.raised;
+      raised = raised-more c.args.counts.now c.args.f.labels _ p.k c.index-l.result (omega arith) c.index-l.ensures.0
+          (omega arith) p.invariant.raised;
     }
 
 pub returns : goal.returns

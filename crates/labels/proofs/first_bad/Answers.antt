@@ -27,7 +27,8 @@ returns-then-is_bad c =
     let a = c.args in
     let blocks = c.args.blocks in
     passed-found bad10 blocks a.n p.i p.invariant c.loop-i-test.true
-    (bad10-is (take a.n blocks) (counts_in a.entries.now a.exits.now a.begins.now a.ends.now) (get_or blocks p.i blank) c.is_bad.result true c.requires.1
+    (bad10-is (take a.n blocks) (counts_in a.entries.now a.exits.now a.begins.now a.ends.now)
+    (get_or blocks p.i blank) c.is_bad.result true c.requires.1
     c.is_bad.ensures c.if-is_bad.true)
 
 pub loop-i-preserved : goal.loop-i-preserved
@@ -36,7 +37,8 @@ loop-i-preserved c =
     let a = c.args in
     let blocks = c.args.blocks in
     passed-more bad10 blocks a.n p.i p.invariant c.loop-i-test.true
-    (bad10-is (take a.n blocks) (counts_in a.entries.now a.exits.now a.begins.now a.ends.now) (get_or blocks p.i blank) c.is_bad.result false c.requires.1
+    (bad10-is (take a.n blocks) (counts_in a.entries.now a.exits.now a.begins.now a.ends.now)
+    (get_or blocks p.i blank) c.is_bad.result false c.requires.1
     c.is_bad.ensures c.if-is_bad.false)
 
 pub returns : goal.returns

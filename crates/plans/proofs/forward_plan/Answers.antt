@@ -34,7 +34,8 @@ pub forward-requires : goal.forward-requires
 forward-requires c =
     let w = c.args.m.now in
     let program = take c.args.n c.args.blocks in
-    let e = placed program w c.requires.0 c.args.row c.requires.2 (entry_block program) (c.entry_block-into.ensures program c.requires.3) c.label-label.ensures c.stage-stage.ensures in (
+    let e = placed program w c.requires.0 c.args.row c.requires.2 (entry_block program)
+    (c.entry_block-into.ensures program c.requires.3) c.label-label.ensures c.stage-stage.ensures in (
       ready_of program w c.requires.0 c.args.row c.requires.2,
       apt_block program w c.requires.0 c.args.row c.requires.2 (inl e) c.block_at-block.ensures,
     )

@@ -19,7 +19,8 @@ pub undo-requires : goal.undo-requires
 undo-requires c =
     let w = c.args.m.now in
     let program = take c.args.n c.args.blocks in
-    let e = placed program w c.requires.0 c.args.row c.requires.2 (exit_block program) (c.exit_block-out.ensures program c.requires.3) c.label-label.ensures c.stage-stage.ensures in (
+    let e = placed program w c.requires.0 c.args.row c.requires.2 (exit_block program)
+    (c.exit_block-out.ensures program c.requires.3) c.label-label.ensures c.stage-stage.ensures in (
       ready_of program w c.requires.0 c.args.row c.requires.2,
       apt_block program w c.requires.0 c.args.row c.requires.2 (inr e) c.block_at-block.ensures,
       below-128 program w c.requires.0,
@@ -29,5 +30,6 @@ pub returns : goal.returns
 returns c =
     let w = c.args.m.now in
     let program = take c.args.n c.args.blocks in
-    let e = placed program w c.requires.0 c.args.row c.requires.2 (exit_block program) (c.exit_block-out.ensures program c.requires.3) c.label-label.ensures c.stage-stage.ensures in
+    let e = placed program w c.requires.0 c.args.row c.requires.2 (exit_block program)
+    (c.exit_block-out.ensures program c.requires.3) c.label-label.ensures c.stage-stage.ensures in
     c.undo.ensures program c.requires.4 (blocks-below program w c.requires.0) (ap (block_of program) (sym e) ∙ sym c.block_at-block.ensures)

@@ -1,4 +1,5 @@
--- Demand 2 on bytes: the statements of Demand2 and RefusedOnlyWhere for `step_bytes`, the step as C calls it, on every image of which judging answers 0
+-- Demand 2 on bytes: the statements of Demand2 and RefusedOnlyWhere for `step_bytes`, the step as C calls it, on every image of which
+-- judging answers 0
 -- and every 34,696 lent bytes that pass code 17, reached by a run or not.
 use Rattle.std.specs.Prelude.{◌≡◌, refl, ◌⊎◌, ◌↔◌, Bool, List, ℕ, ◌<◌, ◌≤◌, eqb, ltb}
 use Rattle.std.proofs.Common.{sym, ◌∙◌, subst}

@@ -1,4 +1,5 @@
--- Demand 3 on bytes, and that code 17 is never met after a start: the statements of Demand3 for the calls as C makes them (Bytes.Runs), for every image
+-- Demand 3 on bytes, and that code 17 is never met after a start: the statements of Demand3 for the calls as C makes them (Bytes.Runs), for
+-- every image
 -- of which judging answers 0, every first memory of 1,152 bytes, every lent 34,696 bytes and every string of calls. A machine so reached is one that
 -- demand 2 speaks of.
 use Rattle.std.specs.Prelude.{◌≡◌, ℕ, length}
@@ -39,7 +40,8 @@ module _ (g : Given) (r : Room) where
   shown calls = ap view (bytes-show g r calls)
 
   -- No step on bytes that a run left answers 17, whatever the process and the direction.
-  pub never-17_bytes : (calls : List Call) (process direction : ℕ) → (step_bytes g.image.bytes (played_bytes g r calls) process direction).answer.code ≡ 17 → ⊥
+  pub never-17_bytes : (calls : List Call) (process direction : ℕ) →
+      (step_bytes g.image.bytes (played_bytes g r calls) process direction).answer.code ≡ 17 → ⊥
   unfolding to_bytes
   never-17_bytes calls p d e =
       Demand3.never_17 (subject g) (lent_of r) (lent-size r) calls p d
@@ -73,7 +75,8 @@ module _ (g : Given) (r : Room) where
       let a =
       Demand3.newest_goes_back (subject g) (lent_of r) (lent-size r) calls history newest (ap (λ (m : Machine). m.history) (sym (shown calls)) ∙ e) in
       let is = step-played g r calls newest.identifier 1 in
-      let back : words_of (bytes_of (step g.image.bytes (played calls) newest.identifier 1).leaves) ≡ (step g.image.bytes (played calls) newest.identifier 1).leaves =
+      let back : words_of (bytes_of (step g.image.bytes (played calls) newest.identifier 1).leaves) ≡ (step g.image.bytes
+      (played calls) newest.identifier 1).leaves =
       words-again _ (after-words calls newest.identifier 1) in
       record {
         code = ap (λ (o : Outcome (List ℕ)). o.answer.code) is ∙ a.code;
@@ -88,11 +91,13 @@ module _ (g : Given) (r : Room) where
           (step-linked (subject g) (played calls) p d (Linked·played (subject g) (lent_of r) calls (lent-size r)))
 
   -- When none remains, the machine is the one that was started, byte for byte.
-  pub none-left_is_the_start_bytes : (calls : List Call) → (view_bytes (played_bytes g r calls)).history ≡ [] → played_bytes g r calls ≡ started_bytes g r
+  pub none-left_is_the_start_bytes : (calls : List Call) → (view_bytes (played_bytes g r calls)).history ≡ [] →
+      played_bytes g r calls ≡ started_bytes g r
   unfolding play_bytes play
   none-left_is_the_start_bytes calls e =
       played-bytes g r calls
-      ∙ ap bytes_of (Demand3.none_left_is_the_start (subject g) (lent_of r) (lent-size r) calls (ap (λ (m : Machine). m.history) (sym (shown calls)) ∙ e))
+      ∙ ap bytes_of (Demand3.none_left_is_the_start (subject g) (lent_of r) (lent-size r) calls
+      (ap (λ (m : Machine). m.history) (sym (shown calls)) ∙ e))
       ∙ sym (played-bytes g r [])
 
   -- Such bytes pass 17, and are bytes that demand 2 speaks of.
@@ -107,7 +112,8 @@ module _ (g : Given) (r : Room) where
       }
 
   -- A list of them into 64 rows answers 0.
-  pub played-list : (calls : List Call) (rows : List Row) → length rows ≡ most_rows → (list_bytes g.image.bytes (played_bytes g r calls) rows).answer.code ≡ 0
+  pub played-list : (calls : List Call) (rows : List Row) → length rows ≡ most_rows →
+      (list_bytes g.image.bytes (played_bytes g r calls) rows).answer.code ≡ 0
   played-list calls rows n =
       let b = played-lent_bytes calls in
       (zero_only.list_bytes_zero g.image.bytes (played_bytes g r calls) rows).1 (record { accepted = b.image.accepted; fit = b.fit }, b.size, n)

@@ -12,8 +12,10 @@ use Rattle.rules.specs.Base.{each_of, zeros}
 use Rattle.rules.specs.Value.{span}
 use Rattle.rules.specs.Calls.{most_rows, deepest}
 use Rattle.rules.specs.Labels.{block_of}
-use Rattle.rules.specs.Machine.{Process, Kept, Machine, begin, run, end, standing, row_words, kept_words, most_kept, machine_words, pack_rows, pack_history, padded, pack}
-use Rattle.rules.specs.Fits.{entry_holds, exit_holds, entry_block, exit_block, root_fits, row_fits, kept_fits, block_fits, digits_fit, ascending, machine_fits}
+use Rattle.rules.specs.Machine.{Process, Kept, Machine, begin, run, end, standing, row_words, kept_words, most_kept, machine_words}
+use Rattle.rules.specs.Machine.{pack_rows, pack_history, padded, pack}
+use Rattle.rules.specs.Fits.{entry_holds, exit_holds, entry_block, exit_block, root_fits, row_fits, kept_fits, block_fits, digits_fit}
+use Rattle.rules.specs.Fits.{ascending, machine_fits}
 use Rattle.rules.specs.declared.Entry.{Entry}
 use Rattle.rules.specs.declared.Exit.{Exit}
 use Rattle.rules.specs.declared.Block.{Block}

@@ -8,7 +8,8 @@ use Rattle.rules.specs.Machine.{memory_words, machine_words}
 use Rattle.rules.specs.Words.{Outcome, step, words_of, bytes_of, to_bytes, step_bytes}
 use Rattle.theorems.specs.Played.{Call, play, Subject, started_in, played_in}
 use Rattle.theorems_more.specs.Refusing.FaultCodes.{accepted-image}
-use Rattle.theorems_more.specs.Subjects.{Bytes, Words, program_of, play_bytes, Given, Room, started_bytes, played_bytes}
+use Rattle.theorems.specs.Refusals.{Bytes}
+use Rattle.theorems_more.specs.Subjects.{Words, program_of, play_bytes, Given, Room, started_bytes, played_bytes}
 use Rattle.theorems.specs.Linked.{Linked, linked-length, start-linked, step-linked}
 use Rattle.theorems_more.specs.Bytes.Words.{words-again, length-bytes, are-bytes, length-words, are_words, step-on_words, start-on_words}
 use Rattle.theorems_more.specs.Bytes.FitWords.{linked-words, played-words, played-length}
@@ -50,7 +51,8 @@ module _ (g : Given) (r : Room) where
   started-bytes =
       ap (λ (o : Outcome (List ℕ)). o.leaves) (start-on_words g.image.bytes r.bytes r.are r.size g.first g.first_size)
 
-  play-bytes : (w : List ℕ) (calls : List Call) → Linked (subject g) w → play_bytes g.image.bytes (bytes_of w) calls ≡ bytes_of (play g.image.bytes w calls)
+  play-bytes : (w : List ℕ) (calls : List Call) → Linked (subject g) w →
+      play_bytes g.image.bytes (bytes_of w) calls ≡ bytes_of (play g.image.bytes w calls)
   unfolding play_bytes play to_bytes
   play-bytes w [] l = refl
   play-bytes w (c ∷ calls) l =
@@ -78,7 +80,8 @@ module _ (g : Given) (r : Room) where
     pub step-played : (p d : ℕ) → step_bytes g.image.bytes (played_bytes g r calls) p d ≡ to_bytes (step g.image.bytes words p d)
     step-played p d =
         ap (λ (b : List ℕ). step_bytes g.image.bytes b p d) (played-bytes calls)
-        ∙ step-of_words g.image.bytes words (played-length (subject g) (lent_of r) (lent-size r) calls) (played-words (subject g) (lent_of r) (lent-size r) calls) p d
+        ∙ step-of_words g.image.bytes words (played-length (subject g) (lent_of r) (lent-size r) calls)
+        (played-words (subject g) (lent_of r) (lent-size r) calls) p d
 
     -- They are 34,696 bytes.
     pub played-size : length (played_bytes g r calls) ≡ 4 * machine_words

@@ -1,4 +1,5 @@
--- A step leaves words: on a machine of words that passes code 17, reached by a run or not, what a forward step or an undo makes is a machine of words,
+-- A step leaves words: on a machine of words that passes code 17, reached by a run or not, what a forward step or an undo makes is a
+-- machine of words,
 -- each below 2 ^ 32. So what `step` leaves on bytes is what it leaves on their words. Assumes that the image is sound.
 use Rattle.std.specs.Prelude.{◌≡◌, ◌⊎◌, Bool, not, ◌&&◌, List, [], ◌∷◌, ◌++◌, length, take, eqb, leb, ltb}
 use Rattle.std.proofs.Math.Path.{refl}
@@ -14,8 +15,10 @@ use Rattle.rules.specs.Read.{is_call}
 use Rattle.rules.specs.Labels.{no_block, block_of, called, called_by}
 use Rattle.rules.specs.Machine.{Process, Kept, Machine, begin, run, end, place, standing, child}
 use Rattle.rules.specs.Fits.{entry_block, exit_block, entry_holds, exit_holds, machine_fits}
-use Rattle.rules.specs.Leaf.{Tried, made, refused, after, Moved, chosen, entry_place, exit_place, act, inverse, present, leaf_forward, leaf_undo, expression_value}
-use Rattle.rules.specs.Step.{move_row, child_rows, insert_rows, remove_rows, keep, close_up, fork, undo_fork, merge, undo_merge, leaf_step, undo_leaf, forward_childless, forward, undo_childless, undo}
+use Rattle.rules.specs.Leaf.{Tried, made, refused, after, Moved, chosen, entry_place, exit_place, act, inverse, present, leaf_forward}
+use Rattle.rules.specs.Leaf.{leaf_undo, expression_value}
+use Rattle.rules.specs.Step.{move_row, child_rows, insert_rows, remove_rows, keep, close_up, fork, undo_fork, merge, undo_merge, leaf_step}
+use Rattle.rules.specs.Step.{undo_leaf, forward_childless, forward, undo_childless, undo}
 use Rattle.rules.specs.declared.Entry.{Entry}
 use Rattle.rules.specs.declared.Exit.{Exit}
 use Rattle.rules.specs.declared.Instruction.{Instruction}
@@ -72,14 +75,16 @@ entry-small : (memory : List ℕ) (e : Entry) → EntryFit e → Every Small (en
 unfolding entry_place
 entry-small memory (Entry.From l) f = (f, omega arith)
 entry-small memory (Entry.Either l m e) f =
-    every_after (λ (v : ℕ). Unit {0}) Small (expression_value memory e) _ (every_of (λ (v : ℕ). Unit {0}) (expression_value memory e) (λ v q. tt)) (λ v q. chosen-small l m v f.0 f.1)
+    every_after (λ (v : ℕ). Unit {0}) Small (expression_value memory e) _
+    (every_of (λ (v : ℕ). Unit {0}) (expression_value memory e) (λ v q. tt)) (λ v q. chosen-small l m v f.0 f.1)
 entry-small memory (Entry.Begin l) f = (f, omega arith)
 
 exit_small : (memory : List ℕ) (e : Exit) → ExitFit e → Every Small (exit_place memory e)
 unfolding exit_place
 exit_small memory (Exit.To l) f = (f, omega arith)
 exit_small memory (Exit.Either e l m) f =
-    every_after (λ (v : ℕ). Unit {0}) Small (expression_value memory e) _ (every_of (λ (v : ℕ). Unit {0}) (expression_value memory e) (λ v q. tt)) (λ v q. chosen-small l m v f.0 f.1)
+    every_after (λ (v : ℕ). Unit {0}) Small (expression_value memory e) _
+    (every_of (λ (v : ℕ). Unit {0}) (expression_value memory e) (λ v q. tt)) (λ v q. chosen-small l m v f.0 f.1)
 exit_small memory (Exit.End l) f = (f, omega arith)
 
 -- ---- leaves
@@ -91,7 +96,8 @@ unfolding leaf_forward present
 leaf-words memory here b f fit =
     every_after Small Stepped (entry_place memory b.entry) _ (entry-small memory b.entry fit.entry)
     (λ q s. every_pick Stepped _ _ (refused 22)
-    (λ t. every_after Fine Stepped (act memory b.instruction) _ (every_of Fine (act memory b.instruction) (λ m e. act-fine memory b.instruction m f fit.instruction e))
+    (λ t. every_after Fine Stepped (act memory b.instruction) _
+    (every_of Fine (act memory b.instruction) (λ m e. act-fine memory b.instruction m f fit.instruction e))
     (λ m k. every_after Small Stepped (exit_place m b.exit) _ (exit_small m b.exit fit.exit) (λ next s. (s, k))))
     (λ t. tt))
 
@@ -101,7 +107,8 @@ unleaf-words memory here b f fit =
     every_after Small Stepped (exit_place memory b.exit) _ (exit_small memory b.exit fit.exit)
     (λ q s. every_pick Stepped _ _ (refused 22)
     (λ t. every_after Fine Stepped (act memory (inverse b.instruction)) _
-    (every_of Fine (act memory (inverse b.instruction)) (λ m e. act-fine memory (inverse b.instruction) m f (inverse-fair b.instruction fit.instruction) e))
+    (every_of Fine (act memory (inverse b.instruction))
+    (λ m e. act-fine memory (inverse b.instruction) m f (inverse-fair b.instruction fit.instruction) e))
     (λ m k. every_after Small Stepped (entry_place m b.entry) _ (entry-small m b.entry fit.entry) (λ next s. (s, k))))
     (λ t. tt))
 
@@ -251,7 +258,8 @@ module _ (program : List Block) (S : Sound program) where
     hp : p < span
     hp = live-word program S m passed p here live
 
-    calls-rows : (b stage : ℕ) → stage < 256 → is_call (block_of program b).instruction ≡ true → (b ≡ entry_block program here) ⊎ (b ≡ exit_block program here) →
+    calls-rows : (b stage : ℕ) → stage < 256 → is_call (block_of program b).instruction ≡ true →
+        (b ≡ entry_block program here) ⊎ (b ≡ exit_block program here) →
         Rows (child_rows p stage 1 (called program b))
     calls-rows b stage hs c at =
         let lt = call-in_image program S b c in
@@ -269,13 +277,15 @@ module _ (program : List Block) (S : Sound program) where
         (λ t. every_pick Worded _ _ _
         (λ free. every_pick Worded (is_call (block_of program b).instruction) _ _
         (λ c. every_pick Worded _ (refused 28) _ (λ t. tt)
-        (λ t. every_after Small Worded (exit_place m.memory (block_of program b).exit) _ (exit_small m.memory (block_of program b).exit (fit-any b).exit)
+        (λ t. every_after Small Worded (exit_place m.memory (block_of program b).exit) _
+        (exit_small m.memory (block_of program b).exit (fit-any b).exit)
         (λ next s. record {
           rows = insert_words _ p _ (move-words m.rows p next hp s w.rows) (calls-rows b begin (omega arith) c (inl refl));
           history = keep-words m.history p b hp (entry-word here) w.history;
           memory = w.memory;
         })))
-        (λ c. every_after Stepped Worded (leaf_forward m.memory here (block_of program b)) _ (leaf-words m.memory here (block_of program b) w.memory (fit-any b))
+        (λ c. every_after Stepped Worded (leaf_forward m.memory here (block_of program b)) _
+        (leaf-words m.memory here (block_of program b) w.memory (fit-any b))
         (λ s k. record {
           rows = move-words m.rows p s.stands hp k.0 w.rows;
           history = keep-words m.history p b hp (entry-word here) w.history;
@@ -304,13 +314,15 @@ module _ (program : List Block) (S : Sound program) where
           history = close_words m.history p w.history;
           memory = w.memory;
         }))
-        (λ c. every_after Stepped Worded (leaf_undo m.memory here (block_of program b)) _ (unleaf-words m.memory here (block_of program b) w.memory (fit-any b))
+        (λ c. every_after Stepped Worded (leaf_undo m.memory here (block_of program b)) _
+        (unleaf-words m.memory here (block_of program b) w.memory (fit-any b))
         (λ s k. record {
           rows = move-words m.rows p s.stands hp k.0 w.rows;
           history = close_words m.history p w.history;
           memory = k.1;
         })))
-        (λ busy. every_after Small Worded (entry_place m.memory (block_of program b).entry) _ (entry-small m.memory (block_of program b).entry (fit-any b).entry)
+        (λ busy. every_after Small Worded (entry_place m.memory (block_of program b).entry) _
+        (entry-small m.memory (block_of program b).entry (fit-any b).entry)
         (λ back s. record {
           rows = move-words (remove_rows m.rows p) p back hp s (remove_words m.rows p w.rows);
           history = close_words m.history p w.history;

@@ -11,14 +11,16 @@ use Rattle.rules.specs.Value.{span}
 use Rattle.rules.specs.Machine.{memory_words, machine_words}
 use Rattle.rules.specs.Read.{Reading, got, fault, decoded}
 use Rattle.rules.specs.Judge.{judged_blocks}
-use Rattle.rules.specs.Words.{Outcome, refuse, judged_then, read_then, on_image, start_in, start, step_in, step, words_of, bytes_of, to_bytes, has_words, start_bytes_in, start_bytes, step_bytes_in, step_bytes}
+use Rattle.rules.specs.Words.{Outcome, refuse, judged_then, read_then, on_image, start_in, start, step_in, step, words_of, bytes_of}
+use Rattle.rules.specs.Words.{to_bytes, has_words, start_bytes_in, start_bytes, step_bytes_in, step_bytes}
 use Rattle.rules.specs.List.{list_in, list, list_bytes_in, list_bytes}
 use Rattle.rules.specs.declared.Block.{Block}
 use Rattle.rules.specs.declared.Judgement.{Judgement}
 use Rattle.rules.specs.declared.Row.{Row}
 use Rattle.laws.proofs.Lists.{pick_true, each_below}
 use Rattle.laws.proofs.Bytes.{bytes-again}
-use Rattle.theorems_more.specs.Subjects.{Bytes, Words}
+use Rattle.theorems.specs.Refusals.{Bytes}
+use Rattle.theorems_more.specs.Subjects.{Words}
 
 -- ---- words, to bytes and back
 sum_of : (w a b c d x y z : ℕ) → w ≡ 256 * x + a → x ≡ 256 * y + b → y ≡ 256 * z + c → z ≡ d → word_from a b c d ≡ w
@@ -122,11 +124,13 @@ module _ (image bytes : List ℕ) (are : Bytes bytes) (size : length bytes ≡ 4
       (λ program. pick_true (has_words bytes machine_words) (to_bytes (step_in (words_of bytes) p d program)) (refuse 16 0 bytes) has)
 
   -- So is a start, from a first memory of 1,152 bytes.
-  pub start-on_words : (first : List ℕ) → length first ≡ 4 * memory_words → start_bytes image first bytes ≡ to_bytes (start image (words_of first) (words_of bytes))
+  pub start-on_words : (first : List ℕ) → length first ≡ 4 * memory_words →
+      start_bytes image first bytes ≡ to_bytes (start image (words_of first) (words_of bytes))
   unfolding start_bytes start_bytes_in start to_bytes
   start-on_words first h =
       image-after bytes_of image (words_of bytes) bytes (start_in (words_of first) (words_of bytes)) (start_bytes_in first bytes) back
-      (λ program. pick_true (has_words first memory_words && has_words bytes machine_words) (to_bytes (start_in (words_of first) (words_of bytes) program)) (refuse 16 0 bytes)
+      (λ program. pick_true (has_words first memory_words && has_words bytes machine_words)
+      (to_bytes (start_in (words_of first) (words_of bytes) program)) (refuse 16 0 bytes)
       (true_and (has_words first memory_words) (has_words bytes machine_words) (eqb_same (length first) (4 * memory_words) h) has))
 
   -- So is a list.

@@ -12,7 +12,9 @@ use Rattle.rules.specs.Base.{pick, lowest}
 use Rattle.rules.specs.Format.{longest, operator_of, byte_at, most_blocks}
 use Rattle.rules.specs.Calls.{peak}
 use Rattle.rules.specs.Judge.{at_lowest, judged_blocks, judged_reading, judgement, numbers}
-use Rattle.rules.specs.Read.{Reading, got, fault, next, follows, whole, label_at, labels_at, variable_at, constant_at, operand_at, target_at, two_at, expression_at, entry_at, update_at, exchange_at, call_at, instruction_at, call_exit_at, leaf_exit_at, is_call, exit_at, block_at, blocks_at, decoded}
+use Rattle.rules.specs.Read.{Reading, got, fault, next, follows, whole, label_at, labels_at, variable_at, constant_at, operand_at}
+use Rattle.rules.specs.Read.{target_at, two_at, expression_at, entry_at, update_at, exchange_at, call_at, instruction_at, call_exit_at}
+use Rattle.rules.specs.Read.{leaf_exit_at, is_call, exit_at, block_at, blocks_at, decoded}
 use Rattle.rules.specs.Words.{Outcome, judged_then, read_then, on_image}
 use Rattle.rules.specs.declared.Operator.{Operator}
 use Rattle.rules.specs.declared.Change.{Change}
@@ -153,7 +155,8 @@ module _ (s : List ℕ) where
   block-early at =
       early_next (entry_at s at) _ (entry-early at)
       (λ e n. early_next (instruction_at s n e) _ (instruction-early n e)
-      (λ i m. early_next (exit_at s m i) _ (early_pick (is_call i) (call_exit_at s m) (leaf_exit_at s m) (call-exit_early m) (leaf-exit_early m)) (λ x k. tt)))
+      (λ i m. early_next (exit_at s m i) _
+      (early_pick (is_call i) (call_exit_at s m) (leaf_exit_at s m) (call-exit_early m) (leaf-exit_early m)) (λ x k. tt)))
 
   pub blocks-early : (n at : ℕ) → Early (blocks_at n s at)
   unfolding blocks_at

@@ -1,4 +1,5 @@
--- The last row of RefusalTable's stepping, 25, 22, 23 or 24, is given of leaves alone: on an accepted image and a machine that passes 17 only a process
+-- The last row of RefusalTable's stepping, 25, 22, 23 or 24, is given of leaves alone: on an accepted image and a machine that passes 17
+-- only a process
 -- without children, at a block that is no call, meets one of them. Assumes that the image is sound.
 use Rattle.std.specs.Prelude.{◌≡◌, Bool, true, false, List, length, eqb}
 use Rattle.std.proofs.Math.Path.{refl}
@@ -34,7 +35,8 @@ module _ (program : List Block) (S : Sound program) (m : Machine) (passed : mach
 
       go :
           (n c : Bool) → is_call (block_of program b).instruction ≡ c →
-          is_met (pick n (pick c (refusal_in (exit_place m.memory (block_of program b).exit)) (refusal_in (leaf_forward m.memory here (block_of program b)))) none)
+          is_met (pick n (pick c (refusal_in (exit_place m.memory (block_of program b).exit))
+          (refusal_in (leaf_forward m.memory here (block_of program b)))) none)
           ≡ true → (n ≡ true) × (c ≡ false)
       go true true e h =
           absurd (true_false h (ap (λ (t : Tried Place). is_met (refusal_in t))
@@ -58,7 +60,8 @@ module _ (program : List Block) (S : Sound program) (m : Machine) (passed : mach
 
       go :
           (n c : Bool) → eqb (length (children m.rows p)) 0 ≡ n →
-          is_met (pick n (pick c none (refusal_in (leaf_undo m.memory here (block_of program b)))) (refusal_in (entry_place m.memory (block_of program b).entry)))
+          is_met (pick n (pick c none (refusal_in (leaf_undo m.memory here (block_of program b))))
+          (refusal_in (entry_place m.memory (block_of program b).entry)))
           ≡ true → (n ≡ true) × (c ≡ false)
       go true true e h = absurd (true_false h refl)
       go true false e h = (refl, refl)

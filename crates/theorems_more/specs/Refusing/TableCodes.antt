@@ -1,4 +1,5 @@
--- The codes of RefusalTable's tables: each is from 1 to 28, judging's at most 15, a start's at most 16, a list's at most 17. So the first row given has
+-- The codes of RefusalTable's tables: each is from 1 to 28, judging's at most 15, a start's at most 16, a list's at most 17. So the first
+-- row given has
 -- such a code, and is 0 just where no row is given. Assumes nothing.
 use Rattle.std.specs.Prelude.{◌≡◌, refl, Bool, true, false, List, [], ◌∷◌, ◌++◌, ℕ, ◌≤◌, eqb}
 use Rattle.std.proofs.Math.Option.{Option, none, some}
@@ -13,7 +14,8 @@ use Rattle.rules.specs.declared.Block.{Block}
 use Rattle.rules.specs.declared.Place.{Place}
 use Rattle.theorems.specs.Codes.{Only, entry-only, exit-only, leaf-only, unleaf-only}
 use Rattle.theorems_more.specs.Refusing.FaultCodes.{Early, blocks-early}
-use Rattle.rules.specs.RefusalTable.{Refusal, row, first_given, fault_code, is_fault, program_in, nine_on, judging, starting, listing, placed, refusal_in, is_met, met_code, block, has_none, calling, met_ahead, met_back, trying, stepping}
+use Rattle.rules.specs.RefusalTable.{Refusal, row, first_given, fault_code, is_fault, program_in, nine_on, judging, starting, listing}
+use Rattle.rules.specs.RefusalTable.{placed, refusal_in, is_met, met_code, block, has_none, calling, met_ahead, met_back, trying, stepping}
 
 -- ---- tables whose codes are 1 to a highest one
 abbrev pub Right : ℕ → Refusal → Type 0
@@ -154,7 +156,8 @@ module _ (program : List Block) (m : Machine) (p : ℕ) (here : Place) (ahead : 
             (
               met-right (pick ahead (met_ahead program m p here ahead) (met_back program m p here ahead))
                   (met-pick ahead (met_ahead program m p here ahead) (met_back program m p here ahead)
-                  (met-pick none? (pick called? out leap) none (met-pick called? out leap (met-in (exit_place m.memory b.exit) (exit-only Late l22 l23 l24 l25 m.memory b.exit))
+                  (met-pick none? (pick called? out leap) none
+                  (met-pick called? out leap (met-in (exit_place m.memory b.exit) (exit-only Late l22 l23 l24 l25 m.memory b.exit))
                   (met-in (leaf_forward m.memory here b) (leaf-only Late l22 l23 l24 l25 m.memory here b))) tt)
                   (met-pick none? (pick called? none fall) back
                   (met-pick called? none fall tt (met-in (leaf_undo m.memory here b) (unleaf-only Late l22 l23 l24 l25 m.memory here b)))
@@ -186,7 +189,8 @@ starting-right image lengths = right-append 16 (judging image) _ (judging-right 
 pub listing-right : (image : List ℕ) (lengths : Bool) (words : List ℕ) → AllRight 17 (listing image lengths words)
 unfolding listing
 listing-right image lengths words =
-    right-append 17 (judging image) _ (judging-right 17 (omega arith) image) (plain 16 _ (omega arith) (omega arith), (plain 17 _ (omega arith) (omega arith), tt))
+    right-append 17 (judging image) _ (judging-right 17 (omega arith) image)
+    (plain 16 _ (omega arith) (omega arith), (plain 17 _ (omega arith) (omega arith), tt))
 
 pub stepping-right : (image : List ℕ) (lengths : Bool) (words : List ℕ) (p d : ℕ) → AllRight 28 (stepping image lengths words p d)
 unfolding stepping

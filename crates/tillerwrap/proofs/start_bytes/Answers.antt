@@ -18,5 +18,6 @@ returns c =
     let a = c.args in
     λ program.
     ap (outcome c.start-code.result) c.bytes_of.ensures
-    ∙ well a.first.now a.machine.now program c.start-code.result (zeros 8674) c.start-code.new.m c.if-first-ne-MEMORY_BYTES.false c.if-machine-ne-MACHINE_BYTES.false refl
+    ∙ well a.first.now a.machine.now program c.start-code.result
+    (zeros 8674) c.start-code.new.m c.if-first-ne-MEMORY_BYTES.false c.if-machine-ne-MACHINE_BYTES.false refl
     (c.start-code.ensures program ∙ ap (λ (f : List ℕ). start_in f (zeros 8674) program) c.words_of.ensures)

@@ -15,11 +15,13 @@ place-here-requires c = row-ready c.args.m.now c.args.row c.requires.0
 pub returns-in-Moves : goal.returns-in-Moves
 returns-in-Moves c =
     let a = c.args in
-    plans_at (ap (λ (q : Place). undo_leaf (view a.m.now) (process_at a.m.now a.row) (leaf_undo (view a.m.now).memory q a.block)) c.place-here.ensures)
+    plans_at (ap (λ (q : Place). undo_leaf (view a.m.now) (process_at a.m.now a.row)
+    (leaf_undo (view a.m.now).memory q a.block)) c.place-here.ensures)
     (plans_undo_leaf a.m.now a.row c.requires.0 _ _ c.undo.ensures c.in-Moves.is c.requires.2)
 
 pub returns-in-Refused : goal.returns-in-Refused
 returns-in-Refused c =
     let a = c.args in
-    plans_at (ap (λ (q : Place). undo_leaf (view a.m.now) (process_at a.m.now a.row) (leaf_undo (view a.m.now).memory q a.block)) c.place-here.ensures)
+    plans_at (ap (λ (q : Place). undo_leaf (view a.m.now) (process_at a.m.now a.row)
+    (leaf_undo (view a.m.now).memory q a.block)) c.place-here.ensures)
     (refuses-undo_leaf a.m.now a.row c.requires.0 _ _ c.undo.ensures c.in-Refused.is)

@@ -15,7 +15,8 @@ decreases-sum l = l.levels * 2 + 1
 abbrev pub invariant-peak-loop-b : goal.invariant-peak-loop-b
 invariant-peak-loop-b l = record {
   within : l.b ≤ l.n;
-  best : l.best ≡ capped (largest (calling_from l.homes l.counts l.names l.n) (sum_of (peak_within (calling_from l.homes l.counts l.names l.n) l.left)) l.label l.b);
+  best : l.best ≡ capped
+      (largest (calling_from l.homes l.counts l.names l.n) (sum_of (peak_within (calling_from l.homes l.counts l.names l.n) l.left)) l.label l.b);
   memo : Memo (calling_from l.homes l.counts l.names l.n) l.memo;
 }
 

@@ -22,7 +22,8 @@ joined : (b : Block) (x y z : ℕ)
     → Mask (block_reads b) (bit_or (bit_or x y) z)
 unfolding block_reads block_names
 joined b x y z e i o =
-    mask_same (λ r. regroup (entry_names b.entry r) (other_names b.instruction r) (semaphore_names b.instruction r) (exit_names b.exit r)) (mask_or (mask_or e i) o)
+    mask_same (λ r. regroup (entry_names b.entry r) (other_names b.instruction r) (semaphore_names b.instruction r) (exit_names b.exit r))
+    (mask_or (mask_or e i) o)
 
 pub returns : goal.returns
 returns c = joined c.args.b _ _ _ c.entry.ensures c.instruction.ensures c.exit.ensures
