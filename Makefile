@@ -40,13 +40,14 @@ independent-test:
 compiler:
 	command -v $(firstword $(CC64)) > /dev/null || apt-get install -qq -y gcc-x86-64-linux-gnu libc6-dev-amd64-cross > /dev/null
 
-# Targets that are made at the same time call rt one after the other.
+# Targets that are made at the same time call rt one after the other. What it prints is shown where it fails.
 RT := flock $(CURDIR)/Makefile rt
 
 # The library for C: rt proves what is not proved yet, then compiles.
 archive:
-	cd $(ARCHIVE_CRATE) && $(RT) lib > /dev/null
-	mkdir -p $(dir $(ARCHIVE)) && cp $(ARCHIVE_CRATE)/out/libtillerwrap_c.a $(ARCHIVE)
+	@mkdir -p $(dir $(ARCHIVE))
+	@cd $(ARCHIVE_CRATE) && $(RT) lib > $(CURDIR)/target/archive.log 2>&1 || { cat $(CURDIR)/target/archive.log; exit 1; }
+	@cp $(ARCHIVE_CRATE)/out/libtillerwrap_c.a $(ARCHIVE)
 
 # The header in C and in C++, and a client of all of it under the sanitizers.
 client-test: archive compiler

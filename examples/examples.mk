@@ -28,8 +28,9 @@ converter: walk
 
 # rt proves what is not proved yet, compiles, and runs the program, here where it finds no image.
 walk:
-	@cd crates/walk && $(RT) run < /dev/null > /dev/null
-	@mkdir -p target/bin && cp crates/walk/out/walk target/bin/walk
+	@mkdir -p target/bin
+	@cd crates/walk && $(RT) run < /dev/null > $(CURDIR)/target/walk.log 2>&1 || { cat $(CURDIR)/target/walk.log; exit 1; }
+	@cp crates/walk/out/walk target/bin/walk
 
 # Both session programs print the stored lines of each example.
 example-test: walk independent
