@@ -14,7 +14,7 @@ use Rattle.rules.specs.Labels.{block_of, home, called_by, bad9, bad10, bad11, ba
 use Rattle.rules.specs.Calls.{Calling, calling_of, bad13, bad14, bad15, peak}
 use Rattle.rules.specs.Judge.{at_lowest, judged_blocks, judged_reading}
 use Rattle.rules.specs.declared.Block.{Block}
-use Rattle.rules.specs.declared.Judgement.{Judgement}
+use Rattle.rules.specs.Judgement.{Judgement}
 use Rattle.laws.specs.CallTable.{calls_from, calling_from}
 use Rattle.calls.specs.Peaks.{MainPeak}
 use Rattle.decode.specs.Shows.{Shows}

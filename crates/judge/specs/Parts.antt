@@ -6,7 +6,7 @@ use Rattle.rules.specs.Labels.{block_of, bad12}
 use Rattle.rules.specs.Calls.{calling_of, bad13, bad14, bad15, peak}
 use Rattle.rules.specs.Judge.{at_lowest}
 use Rattle.rules.specs.declared.Block.{Block}
-use Rattle.rules.specs.declared.Judgement.{Judgement}
+use Rattle.rules.specs.Judgement.{Judgement}
 
 -- codes 14 and 15, and what is accepted
 unfoldable pub judged_calls : List Block → Judgement

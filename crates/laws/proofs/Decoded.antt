@@ -1,7 +1,7 @@
 -- Every decoded block is fit (specs/Fit), and there are at most 128. Assumes that an image's bytes are below 256.
 use mathlib.Core.Path.{◌≡◌, refl, subst}
 use mathlib.Core.Bool.{Bool, true, false, ◌&&◌}
-use mathlib.Core.List.{List, [], ◌∷◌}
+use mathlib.Core.List.{List, [], ◌∷◌, map}
 use mathlib.Core.Option.{Option, none, some}
 use Prim.Native.Nat.{ℕ, zero, suc, ◌+◌, ◌-◌, ◌≤◌, ◌<◌}
 use native.Mathlib.Omega.{arith}
@@ -9,7 +9,7 @@ use native.Mathlib.Nat.{not-suc-le-zero, le_of_suc-le-suc}
 use lib.ListN.{length}
 use lib.Dec.{leb, ltb}
 use borrow.Author.Tests.{leb-true, leb-false}
-use Rattle.rules.specs.Base.{pick}
+use Rattle.rules.specs.Base.{pick, up_from}
 use Rattle.rules.specs.Format.{operator_of, byte_at}
 use Rattle.rules.specs.Labels.{block_of}
 use Rattle.rules.specs.Read.{Reading, got, fault, next, follows, whole, label_at, labels_at, variable_at, constant_at, operand_at, target_at, two_at, expression_at, entry_at, updates_itself, exchanges_itself, update_at, exchange_at, name_at, names_at, call_at, instruction_at, call_exit_at, leaf_exit_at, is_call, exit_at, block_at, blocks_at, decoded}
@@ -127,20 +127,13 @@ module _ (s : List ℕ) (bytes : Bytes s) where
       go false = omega arith
 
   names-fit : (at n : ℕ) → 1 ≤ n → n ≤ 8 → NamesFit (names_at s at n)
-  unfolding names_at
-  names-fit at n h k =
-      record {
-        some = h;
-        few = k;
-        first = name-fit at n 0;
-        second = name-fit at n 1;
-        third = name-fit at n 2;
-        fourth = name-fit at n 3;
-        fifth = name-fit at n 4;
-        sixth = name-fit at n 5;
-        seventh = name-fit at n 6;
-        eighth = name-fit at n 7;
-      }
+  unfolding names_at up_from
+  names-fit at n h k = record { some = h; few = k; eight = refl; bytes = all (up_from 0 8) }
+    where
+      all : (l : List ℕ) → Bytes (map (name_at s at n) l)
+      all [] i = omega arith
+      all (x ∷ l) zero = name-fit at n x
+      all (x ∷ l) (suc i) = all l i
 
   -- an instruction that follows an entry: fit, and a call only after a plain entry
   abbrev After : Entry → Instruction → Type 0

@@ -6,6 +6,10 @@ use Prim.Native.Nat.{ℕ, zero, suc, ◌+◌, ◌<◌, ◌≤◌}
 use native.Mathlib.Nat.{add-zero, zero-add, not-suc-le-zero}
 use native.Mathlib.Omega.{arith}
 use lib.Dec.{ltb}
+use lib.ListN.{length, get_or}
+use mathlib.Core.List.{List, [], ◌∷◌}
+use Rattle.std.specs.List.{position, position_or_len}
+use Rattle.laws.specs.Found.{found}
 use borrow.Author.Tests.{ltb-true, ltb-false}
 use Rattle.rules.specs.Base.{pick, lowest_from, lowest}
 use Rattle.theory.specs.Tests.{bool_cases, not_true}
@@ -83,3 +87,28 @@ module _ (p : ℕ → Bool) where
   pub lowest-one : (n b : ℕ) → b < n → p b ≡ true → ((c : ℕ) → c < n → p c ≡ true → c ≡ b) → lowest p n ≡ b
   lowest-one n b lt h one =
       sym (lowest-is n b (omega arith) (λ k kb. not_true (p k) (λ e. let z = one k (omega arith) e in omega arith)) (λ _. h))
+
+-- a slice is searched for the first element that passes, a program for the lowest block
+module _ {A : Type 0} (q : A → Bool) (d : A) where
+  passes-first :
+      (p : ℕ → Bool) (l : List A) (at : ℕ) → ((k : ℕ) → k < length l → p (at + k) ≡ q (get_or l k d)) →
+      lowest_from p (length l) at ≡ at + position_or_len q l
+  unfolding lowest_from pick
+  passes-first p [] at h = omega arith
+  passes-first p (a ∷ l) at h =
+      go (q a) refl
+      (passes-first p l (suc at) (λ k lt. let z : at + suc k ≡ suc at + k = omega arith in subst (λ (x : ℕ). p x ≡ q (get_or l k d)) z (h (suc k) (omega arith))))
+    where
+      here : p at ≡ q a
+      here = subst (λ (x : ℕ). p x ≡ q a) (add-zero at) (h 0 (omega arith))
+
+      go : (b : Bool) → q a ≡ b → lowest_from p (length l) (suc at) ≡ suc at + position_or_len q l → lowest_from p (length (a ∷ l)) at ≡ at + position_or_len q (a ∷ l)
+      go true e rest = rw (here, e) (sym (add-zero at))
+      go false e rest = rw (here, e) (rest ∙ (omega arith))
+
+  pub found-position : (p : ℕ → Bool) (l : List A) → ((k : ℕ) → k < length l → p k ≡ q (get_or l k d)) → position q l ≡ found p (length l)
+  unfolding lowest
+  found-position p l h =
+      let e : lowest_from p (length l) 0 ≡ position_or_len q l =
+          passes-first p l 0 (λ k lt. subst (λ (x : ℕ). p x ≡ q (get_or l k d)) (sym (zero-add k)) (h k lt)) ∙ zero-add (position_or_len q l) in
+      rw e refl

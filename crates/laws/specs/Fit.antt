@@ -1,6 +1,6 @@
 -- What every decoded block keeps to, as predicates that contracts cite: variables below 32, labels below 256, constants that are
 -- words, no update or exchange that code 7 refuses, a call of 1 to 8 labels between a plain entry and a plain exit.
-use Rattle.std.specs.Prelude.{◌≡◌, true, false, List, ℕ, ◌^◌, ◌≤◌, ◌<◌, get_or}
+use Rattle.std.specs.Prelude.{◌≡◌, true, false, List, ℕ, ◌^◌, ◌≤◌, ◌<◌, length, get_or}
 use Rattle.rules.specs.Read.{updates_itself, exchanges_itself, is_call}
 use Rattle.rules.specs.declared.Operand.{Operand}
 use Rattle.rules.specs.declared.Target.{Target}
@@ -43,14 +43,8 @@ ExitFit (Exit.End l) = l < 256
 pub record NamesFit (n : Names) : Type 0 where
   pub some : 1 ≤ n.count
   pub few : n.count ≤ 8
-  pub first : n.first < 256
-  pub second : n.second < 256
-  pub third : n.third < 256
-  pub fourth : n.fourth < 256
-  pub fifth : n.fifth < 256
-  pub sixth : n.sixth < 256
-  pub seventh : n.seventh < 256
-  pub eighth : n.eighth < 256
+  pub eight : length n.labels ≡ 8
+  pub bytes : Bytes n.labels
 
 abbrev pub InstructionFit : Instruction → Type 0
 InstructionFit (Instruction.Update change a e) = TargetFit a × ExpressionFit e × (updates_itself a e ≡ false)

@@ -3,3 +3,4 @@ pub mod CallTable
 pub mod Fit
 pub mod Conflict
 pub mod Acyclic
+pub mod Found

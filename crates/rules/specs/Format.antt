@@ -54,6 +54,4 @@ operator_of kind =
 
 -- the labels that a call names, in their order
 abbrev pub named : Names → List ℕ
-named n =
-    take n.count
-    (n.first ∷ n.second ∷ n.third ∷ n.fourth ∷ n.fifth ∷ n.sixth ∷ n.seventh ∷ n.eighth ∷ [])
+named n = take n.count n.labels

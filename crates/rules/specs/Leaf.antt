@@ -1,6 +1,7 @@
 -- Evaluation, instructions and the step of a leaf, document 01, "Steps" (004, figure 2), with the codes 22 to 25.
-use Rattle.std.specs.Prelude.{ℕ, ◌+◌, ◌&&◌, List, get_or, set, eqb, ltb}
+use Rattle.std.specs.Prelude.{ℕ, ◌+◌, ◌&&◌, List, get_or, set, eqb, ltb, Result, Ok, Err}
 use Rattle.rules.specs.Base.{pick}
+use Rattle.rules.specs.Codes.{number}
 use Rattle.rules.specs.Value.{applied, changed, negated}
 use Rattle.rules.specs.Format.{variables, cells}
 use Rattle.rules.specs.Machine.{place, begin, run, end}
@@ -8,6 +9,7 @@ use Rattle.rules.specs.declared.Operand.{Operand}
 use Rattle.rules.specs.declared.Target.{Target}
 use Rattle.rules.specs.declared.Expression.{Expression}
 use Rattle.rules.specs.declared.Change.{Change}
+use Rattle.rules.specs.declared.Code.{Code}
 use Rattle.rules.specs.declared.Instruction.{Instruction}
 use Rattle.rules.specs.declared.Entry.{Entry}
 use Rattle.rules.specs.declared.Exit.{Exit}
@@ -18,6 +20,11 @@ use Rattle.rules.specs.declared.Place.{Place}
 pub data Tried (A : Type 0) : Type 0 where
   made : A → Tried A
   refused : ℕ → Tried A
+
+-- as the code answers it
+abbrev pub tried : {A : Type 0} → Result A Code → Tried A
+tried (Ok a) = made a
+tried (Err code) = refused (number code)
 
 module _ {A B : Type 0} where
   -- go on from what was made; a refusal stays

@@ -1,3 +1,4 @@
+pub mod Codes
 pub mod Base
 pub mod Value
 pub mod Meaning
@@ -7,6 +8,7 @@ pub mod Resources
 pub mod Read
 pub mod Labels
 pub mod Calls
+pub mod Judgement
 pub mod Judge
 pub mod Machine
 pub mod Fits

@@ -1,8 +1,8 @@
 -- Reading an image, document 01, "The image" and codes 1 to 8 of "Judging": records in byte order, with an offset that moves
 -- past each. What is read is handed on with the offset past it; the first fault wins, with its code and place.
-use Rattle.std.specs.Prelude.{ℕ, zero, suc, ◌+◌, ◌-◌, List, [], ◌∷◌, Bool, true, false, ◌||◌, ◌&&◌, length, ltb, leb, eqb}
+use Rattle.std.specs.Prelude.{ℕ, zero, suc, ◌+◌, ◌-◌, List, [], ◌∷◌, map, Bool, true, false, ◌||◌, ◌&&◌, length, ltb, leb, eqb}
 use Rattle.std.proofs.Math.Option.{Option, none, some}
-use Rattle.rules.specs.Base.{pick}
+use Rattle.rules.specs.Base.{pick, up_from}
 use Rattle.rules.specs.Format.{longest, most_blocks, variables, byte_at, word_at, operator_of}
 use Rattle.rules.specs.Names.{expression_names, target_names, target_resource}
 use Rattle.rules.specs.declared.Operand.{Operand}
@@ -121,18 +121,7 @@ unfoldable pub name_at : List ℕ → ℕ → ℕ → ℕ → ℕ
 name_at s at n i = pick (ltb i n) (byte_at s (at + 1 + i)) 0
 
 unfoldable pub names_at : List ℕ → ℕ → ℕ → Names
-names_at s at n =
-    record {
-      count = n;
-      first = name_at s at n 0;
-      second = name_at s at n 1;
-      third = name_at s at n 2;
-      fourth = name_at s at n 3;
-      fifth = name_at s at n 4;
-      sixth = name_at s at n 5;
-      seventh = name_at s at n 6;
-      eighth = name_at s at n 7;
-    }
+names_at s at n = record { count = n; labels = map (name_at s at n) (up_from 0 8) }
 
 -- a call of n labels; 8: its entry is not kind 20
 unfoldable pub call_at : List ℕ → ℕ → Entry → ℕ → Reading Instruction

@@ -10,7 +10,7 @@ use Rattle.rules.specs.Machine.{Machine, standing, memory_words, machine_words, 
 use Rattle.rules.specs.Fits.{fits}
 use Rattle.rules.specs.Leaf.{Tried, made, refused}
 use Rattle.rules.specs.Step.{forward, undo}
-use Rattle.rules.specs.declared.Judgement.{Judgement}
+use Rattle.rules.specs.Judgement.{Judgement}
 use Rattle.rules.specs.declared.Answer.{Answer}
 use Rattle.rules.specs.declared.Block.{Block}
 use Rattle.rules.specs.declared.Place.{Place}

@@ -1,6 +1,9 @@
 // What an image decodes to, and the answers of the public functions: the types that every crate shares.
-// Their definitions stand in specs/, in the order of document 01. This crate has no code.
+// Their definitions stand in specs/, in the order of document 01. The only code is the number of a code, and what a refusal becomes.
 #![tactic(auto)]
+
+ghost use Rattle.std.specs.Prelude.{◌≡◌};
+ghost use Rattle.rules.specs.Codes.{number};
 
 // A constant is a word; a variable and a cell M[x] are named by the variable's number.
 #[derive(Clone, Copy)]
@@ -48,18 +51,11 @@ pub enum Change {
     Xor,
 }
 
-// The labels that a call names, the first in first; those from count on are 0.
+// The labels that a call names; those from count on are 0.
 #[derive(Clone, Copy)]
 pub struct Names {
     pub count: u8,
-    pub first: u8,
-    pub second: u8,
-    pub third: u8,
-    pub fourth: u8,
-    pub fifth: u8,
-    pub sixth: u8,
-    pub seventh: u8,
-    pub eighth: u8,
+    pub labels: [u8; 8],
 }
 
 // OpV and OpP are V x and P x.
@@ -97,11 +93,68 @@ pub struct Block {
     pub exit: Exit,
 }
 
-// What judging finds: a code with its place, or the number of blocks with main's peak.
+// Why something is refused: document 01's codes, each with its number.
+#[derive(Clone, Copy, PartialEq, Eq, Debug)]
+pub enum Code {
+    ImageLength = 1,
+    Kind = 2,
+    Cut = 3,
+    Variable = 4,
+    TooManyBlocks = 5,
+    EqualLabels = 6,
+    OwnName = 7,
+    CallPoint = 8,
+    SemaphoreNamed = 9,
+    LabelCount = 10,
+    ProcessBlock = 11,
+    UnknownLabel = 12,
+    NoMain = 13,
+    Circle = 14,
+    TooDeep = 15,
+    SliceLength = 16,
+    Unfit = 17,
+    NotLive = 18,
+    BadDirection = 19,
+    Children = 20,
+    Stage = 21,
+    OtherLabel = 22,
+    Assertion = 23,
+    Semaphore = 24,
+    Address = 25,
+    HistoryFull = 26,
+    Held = 27,
+    NoRoom = 28,
+}
+
+impl Code {
+    pub fn number(self) -> u32
+        ensures { result ≡ number self }
+    {
+        self as u32
+    }
+}
+
+// A refusal: its code, and its place.
 #[derive(Clone, Copy)]
-pub enum Judgement {
-    Refused(u32, u32),
-    Accepted(u32, u32),
+pub struct Refused {
+    pub code: Code,
+    pub place: u32,
+}
+
+// From code 16 on the place is 0.
+impl From<Code> for Refused {
+    ghost from_gives = { λ code r. r ≡ record { code = code; place = 0 } };
+
+    fn from(code: Code) -> Refused {
+        Refused { code, place: 0 }
+    }
+}
+
+// What judging finds of an image that it accepts: the number of blocks, and main's peak.
+#[derive(Clone, Copy)]
+pub struct Accepted {
+    pub blocks: u32,
+    pub peak: u32,
 }
 
 // The four numbers of a judgement.
@@ -122,8 +175,19 @@ pub struct Answer {
     pub place: u32,
 }
 
+impl From<Refused> for Answer {
+    ghost from_gives = { λ r answer. answer ≡ record { code = number r.code; place = r.place } };
+
+    fn from(refused: Refused) -> Answer {
+        Answer {
+            code: refused.code.number(),
+            place: refused.place,
+        }
+    }
+}
+
 // Where a process stands: a label and a stage.
-#[derive(Clone, Copy)]
+#[derive(Clone, Copy, PartialEq, Eq)]
 pub struct Place {
     pub label: u32,
     pub stage: u32,

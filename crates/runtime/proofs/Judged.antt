@@ -9,7 +9,7 @@ use Rattle.rules.specs.Read.{Reading, got, fault, decoded}
 use Rattle.rules.specs.Judge.{judged_blocks, judged_reading, judgement}
 use Rattle.rules.specs.Words.{Outcome, refuse, judged_then, read_then, on_image}
 use Rattle.rules.specs.declared.Block.{Block}
-use Rattle.rules.specs.declared.Judgement.{Judgement}
+use Rattle.rules.specs.Judgement.{Judgement}
 use Rattle.laws.specs.Fit.{Bytes}
 use Rattle.laws.proofs.Decoded.{fit, few}
 use Rattle.decode.specs.declared.Decoded.{Decoded}

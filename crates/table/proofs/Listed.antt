@@ -15,7 +15,7 @@ use Rattle.rules.specs.Fits.{fits}
 use Rattle.rules.specs.Words.{Outcome, refuse, accept, judged_then, read_then, on_image, words_of, has_words}
 use Rattle.rules.specs.List.{zero_row, rows_of, list_in, list, list_bytes_in, list_bytes}
 use Rattle.rules.specs.declared.Block.{Block}
-use Rattle.rules.specs.declared.Judgement.{Judgement}
+use Rattle.rules.specs.Judgement.{Judgement}
 use Rattle.rules.specs.declared.Row.{Row}
 use Rattle.table.specs.Listed.{written}
 use Rattle.table.proofs.Numbered.{Numbered, decoded-numbered, SomeCode, judged-numbered}

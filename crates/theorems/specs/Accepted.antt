@@ -6,7 +6,7 @@ use Rattle.rules.specs.Labels.{block_of, bad9, bad10, bad11, bad12}
 use Rattle.rules.specs.Calls.{calling_of, bad13, bad14, bad15, peak}
 use Rattle.rules.specs.Judge.{at_lowest, judged_blocks}
 use Rattle.rules.specs.declared.Block.{Block}
-use Rattle.rules.specs.declared.Judgement.{Judgement}
+use Rattle.rules.specs.Judgement.{Judgement}
 use Rattle.laws.proofs.Search.{lowest-none}
 
 abbrev pub IsAccepted : Judgement → Type 0

@@ -63,7 +63,7 @@ few-called (Instruction.OpP x) f = omega arith
 few-called (Instruction.Assert e) f = omega arith
 few-called Instruction.Skip f = omega arith
 few-called (Instruction.Call n) f =
-    let e = length-take n.count (n.first ∷ n.second ∷ n.third ∷ n.fourth ∷ n.fifth ∷ n.sixth ∷ n.seventh ∷ n.eighth ∷ []) in
+    let e = length-take n.count n.labels in
     omega (arith, e, f.few)
 
 -- put looks at the other rows alone

@@ -8,7 +8,7 @@ use Rattle.rules.specs.Words.{Outcome, start, step, start_bytes, step_bytes}
 use Rattle.rules.specs.List.{list, list_bytes}
 use Rattle.rules.specs.declared.Answer.{Answer}
 use Rattle.rules.specs.declared.Judged.{Judged}
-use Rattle.rules.specs.declared.Judgement.{Judgement}
+use Rattle.rules.specs.Judgement.{Judgement}
 use Rattle.rules.specs.declared.Row.{Row}
 
 -- ---- what the promises allow

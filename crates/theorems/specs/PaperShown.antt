@@ -12,7 +12,7 @@ use Rattle.rules.specs.Cause.{Node, Source}
 use Rattle.rules.specs.Paper.{Store, Configuration}
 use Rattle.rules.specs.Annotation.{Annotation, Whole, Annotated, annotation_of}
 use Rattle.rules.specs.declared.Block.{Block}
-use Rattle.rules.specs.declared.Judgement.{Judgement}
+use Rattle.rules.specs.Judgement.{Judgement}
 
 -- a memory of 288 values holds what a store says of the 32 variables and of the 256 cells (a store of 004's has a value for every
 -- number; beyond those it does not matter)

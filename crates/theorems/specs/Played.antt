@@ -8,7 +8,7 @@ use Rattle.rules.specs.Read.{got, decoded}
 use Rattle.rules.specs.Judge.{judged_blocks}
 use Rattle.rules.specs.Words.{start, step}
 use Rattle.rules.specs.declared.Block.{Block}
-use Rattle.rules.specs.declared.Judgement.{Judgement}
+use Rattle.rules.specs.Judgement.{Judgement}
 
 -- one call of `step`
 pub record Call : Type 0 where

@@ -240,13 +240,12 @@ module _ (program : List Block) (S : Sound program) where
   first-label (Instruction.OpP x) c f = absurd (true_false c refl)
   first-label (Instruction.Assert e) c f = absurd (true_false c refl)
   first-label Instruction.Skip c f = absurd (true_false c refl)
-  first-label (Instruction.Call n) c f = (n.first, go n.count f.some)
+  first-label (Instruction.Call n) c f = go n.count n.labels f.some (omega (arith, f.eight))
     where
-      go :
-          (k : ℕ) → 1 ≤ k →
-          get_elem? (take k (n.first ∷ n.second ∷ n.third ∷ n.fourth ∷ n.fifth ∷ n.sixth ∷ n.seventh ∷ n.eighth ∷ [])) 0 ≡ some n.first
-      go zero h = absurd (omega arith)
-      go (suc k) h = refl
+      go : (k : ℕ) (ls : List ℕ) → 1 ≤ k → 1 ≤ length ls → (l : ℕ) × (get_elem? (take k ls) 0 ≡ some l)
+      go zero ls h g = absurd (omega arith)
+      go (suc k) [] h g = absurd (omega arith)
+      go (suc k) (l ∷ ls) h g = (l, refl)
 
   pub call_one : (b : ℕ) → calls program b ≡ true → (i : ℕ) × (l : ℕ) × (slot i ≡ true) × (label_of program b i ≡ some l)
   call_one b c =

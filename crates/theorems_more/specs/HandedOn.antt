@@ -15,7 +15,7 @@ use Rattle.rules.specs.Words.{Outcome, refuse, accept, judged_then, read_then, o
 use Rattle.rules.specs.Words.{step_in, step, words_of, to_bytes, start_bytes_in, start_bytes, step_bytes_in, step_bytes}
 use Rattle.rules.specs.List.{rows_of, list_in, list, list_bytes_in, list_bytes}
 use Rattle.rules.specs.declared.Block.{Block}
-use Rattle.rules.specs.declared.Judgement.{Judgement}
+use Rattle.rules.specs.Judgement.{Judgement}
 use Rattle.rules.specs.declared.Place.{Place}
 use Rattle.rules.specs.declared.Row.{Row}
 use Rattle.rules.specs.RefusalTable.{program_in}

@@ -14,7 +14,7 @@ use Rattle.rules.specs.Calls.{calling_of, bad13, bad15, peak}
 use Rattle.rules.specs.Judge.{at_lowest, judged_blocks, judged_reading, judgement, numbers}
 use Rattle.rules.specs.RefusalTable.{program_in, IsLowest, PlaceOf, nine, ten, eleven, twelve, thirteen, fourteen, fifteen}
 use Rattle.rules.specs.declared.Block.{Block}
-use Rattle.rules.specs.declared.Judgement.{Judgement}
+use Rattle.rules.specs.Judgement.{Judgement}
 use Rattle.rules.specs.declared.Judged.{Judged}
 use Rattle.laws.proofs.Search.{lowest-found}
 use Rattle.theorems_more.specs.Lowest.{lowest-before}

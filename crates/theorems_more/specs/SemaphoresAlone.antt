@@ -12,7 +12,7 @@ use Rattle.rules.specs.Judge.{judged_blocks}
 use Rattle.rules.specs.Resources.{InTarget, InInstruction, Reads, Changes, Writes}
 use Rattle.rules.specs.declared.Instruction.{Instruction}
 use Rattle.rules.specs.declared.Block.{Block}
-use Rattle.rules.specs.declared.Judgement.{Judgement}
+use Rattle.rules.specs.Judgement.{Judgement}
 use Rattle.laws.specs.Fit.{InstructionFit}
 use Rattle.theorems.specs.Accepted.{IsAccepted, past-lowest}
 use Rattle.theorems.specs.Held.{some_below_so}

@@ -12,7 +12,7 @@ use Rattle.rules.specs.Words.{Outcome, refuse, judged_then, read_then, on_image,
 use Rattle.rules.specs.Words.{start_bytes_in, step_bytes_in, step_bytes}
 use Rattle.rules.specs.declared.Answer.{Answer}
 use Rattle.rules.specs.declared.Block.{Block}
-use Rattle.rules.specs.declared.Judgement.{Judgement}
+use Rattle.rules.specs.Judgement.{Judgement}
 use Rattle.laws.specs.Fit.{Bytes}
 use Rattle.machine.specs.Outcome.{outcome}
 use Rattle.runtime.specs.Outcome.{outcome_of}

@@ -1,6 +1,6 @@
 -- The tables are those of the program, and each way out is one of Ways.
 use Rattle.std.proofs.Common.{ℕ, ◌≤◌, ◌≡◌, arith, rules, ap, subst, ◌∙◌, length, take}
-use Rattle.rules.specs.declared.Judgement.{Judgement}
+use Rattle.rules.specs.Judgement.{Judgement}
 use Rattle.calls.proofs.Passed.{passed as no_circle}
 use Rattle.judge.proofs.Ways.{taken, circle, too_large, accepted}
 use Rattle.judge.proofs.judge_calls.Goals as goal

@@ -1,6 +1,6 @@
 -- Each way out is one of Ways.
 use Rattle.std.proofs.Common.{◌≡◌, arith, rules, ap, ◌∙◌, length, take}
-use Rattle.rules.specs.declared.Judgement.{Judgement}
+use Rattle.rules.specs.Judgement.{Judgement}
 use Rattle.judge.proofs.Ways.{taken, semaphores, labelled, processes, names-left}
 use Rattle.judge.proofs.judge_labels.Goals as goal
 

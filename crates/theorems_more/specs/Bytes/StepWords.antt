@@ -24,7 +24,7 @@ use Rattle.rules.specs.declared.Exit.{Exit}
 use Rattle.rules.specs.declared.Instruction.{Instruction}
 use Rattle.rules.specs.declared.Block.{Block}
 use Rattle.rules.specs.declared.Place.{Place}
-use Rattle.laws.specs.Fit.{EntryFit, ExitFit, InstructionFit, BlockFit}
+use Rattle.laws.specs.Fit.{Bytes, EntryFit, ExitFit, InstructionFit, BlockFit}
 use Rattle.laws.proofs.Lists.{each_append}
 use Rattle.theorems.specs.Memory.{Fine}
 use Rattle.theorems.specs.Acts.{act-fine}
@@ -184,15 +184,11 @@ called-small (Instruction.OpV x) f = refl
 called-small (Instruction.OpP x) f = refl
 called-small (Instruction.Assert e) f = refl
 called-small Instruction.Skip f = refl
-called-small (Instruction.Call n) f =
-    take-labels n.count _
-    (true_and _ _ (lt-ltb n.first 256 f.first)
-    (true_and _ _ (lt-ltb n.second 256 f.second)
-    (true_and _ _ (lt-ltb n.third 256 f.third)
-    (true_and _ _ (lt-ltb n.fourth 256 f.fourth)
-    (true_and _ _ (lt-ltb n.fifth 256 f.fifth)
-    (true_and _ _ (lt-ltb n.sixth 256 f.sixth)
-    (true_and _ _ (lt-ltb n.seventh 256 f.seventh) (true_and _ _ (lt-ltb n.eighth 256 f.eighth) refl))))))))
+called-small (Instruction.Call n) f = take-labels n.count n.labels (all n.labels f.bytes)
+  where
+    all : (ls : List ℕ) → Bytes ls → Labels ls
+    all [] h = refl
+    all (l ∷ ls) h = true_and _ _ (lt-ltb l 256 (h 0)) (all ls (λ i. h (suc i)))
 
 -- ---- history
 abbrev History : List Kept → Type 0

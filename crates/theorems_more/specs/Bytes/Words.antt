@@ -15,7 +15,7 @@ use Rattle.rules.specs.Words.{Outcome, refuse, judged_then, read_then, on_image,
 use Rattle.rules.specs.Words.{to_bytes, has_words, start_bytes_in, start_bytes, step_bytes_in, step_bytes}
 use Rattle.rules.specs.List.{list_in, list, list_bytes_in, list_bytes}
 use Rattle.rules.specs.declared.Block.{Block}
-use Rattle.rules.specs.declared.Judgement.{Judgement}
+use Rattle.rules.specs.Judgement.{Judgement}
 use Rattle.rules.specs.declared.Row.{Row}
 use Rattle.laws.proofs.Lists.{pick_true, each_below}
 use Rattle.laws.proofs.Bytes.{bytes-again}
