@@ -4,3 +4,8 @@ use Rattle.rules.specs.Base.{lowest}
 
 abbrev pub found : (ℕ → Bool) → ℕ → Option ℕ
 found p n = cond (ltb (lowest p n) n) (Some (lowest p n)) None
+
+-- what was found, or else n
+abbrev pub or_else : Option ℕ → ℕ → ℕ
+or_else None n = n
+or_else (Some k) n = k
