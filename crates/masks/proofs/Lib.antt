@@ -1,3 +1,2 @@
--- `Bits` has laws that other crates cite, `Fill` what the loop over the blocks keeps.
+-- Laws of masks that other crates cite.
 pub mod Bits
-pub mod Fill

@@ -4,30 +4,30 @@
 
 pub mod mask;
 
-ghost use Rattle.std.specs.Prelude.{◌≤◌, take};
-ghost use Rattle.masks.specs.Masks.{Masks, BlocksFit};
+ghost use Rattle.std.specs.Prelude.{◌≤◌, length};
+ghost use Rattle.rules.specs.Format.{most_blocks};
+ghost use Rattle.masks.specs.Masks.{MasksOf, BlocksFit};
 
 use rules::Block;
 
-#[derive(Drop)]
-pub struct Tables {
+// Of each block what it reads and what it writes.
+#[derive(Clone, Copy)]
+pub struct Masks {
     pub reads: [u64; 128],
     pub writes: [u64; 128],
 }
 
-// What each of the first n blocks reads and writes.
-pub fn masks(blocks: [Block; 128], n: usize) -> Tables
-    requires { (n ≤ 128) × BlocksFit blocks n }
-    ensures { Masks (take n blocks) result.reads result.writes }
-{
-    let mut reads = [0u64; 128];
-    let mut writes = [0u64; 128];
-    let mut b = 0;
-    while b < n {
-        let block = blocks[b];
-        reads[b] = mask::reads(block);
-        writes[b] = mask::writes(block);
-        b += 1;
+impl Masks {
+    pub fn of(blocks: &[Block]) -> Masks
+        requires { (length blocks.now ≤ most_blocks) × BlocksFit blocks.now }
+        ensures { MasksOf blocks.now result }
+    {
+        let mut reads = [0u64; 128];
+        let mut writes = [0u64; 128];
+        for (b, block) in blocks.iter().enumerate() {
+            reads[b] = mask::reads(block);
+            writes[b] = mask::writes(block);
+        }
+        Masks { reads, writes }
     }
-    Tables { reads, writes }
 }

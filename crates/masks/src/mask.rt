@@ -9,7 +9,7 @@ ghost use Rattle.masks.specs.Mask.{Mask, single, instruction_names, target_write
 use rules::{Block, Entry, Exit, Expression, Instruction, Operand, Target};
 
 // The heap's bit.
-const HEAP: u64 = 4294967296;
+const HEAP: u64 = 1 << 32;
 
 // The bit of a variable.
 fn bit(x: u8) -> u64
@@ -64,8 +64,7 @@ fn expression(e: Expression) -> u64
     ensures { Mask (expression_names e) result }
 {
     match e {
-        Expression::Plain(a) => operand(a),
-        Expression::Not(a) => operand(a),
+        Expression::Plain(a) | Expression::Not(a) => operand(a),
         Expression::Two(_, a, b) => operand(a) | operand(b),
     }
 }
@@ -75,9 +74,8 @@ fn entry(e: Entry) -> u64
     ensures { Mask (entry_names e) result }
 {
     match e {
-        Entry::From(_) => 0,
         Entry::Either(_, _, x) => expression(x),
-        Entry::Begin(_) => 0,
+        Entry::From(_) | Entry::Begin(_) => 0,
     }
 }
 
@@ -86,9 +84,8 @@ fn exit(e: Exit) -> u64
     ensures { Mask (exit_names e) result }
 {
     match e {
-        Exit::To(_) => 0,
         Exit::Either(x, _, _) => expression(x),
-        Exit::End(_) => 0,
+        Exit::To(_) | Exit::End(_) => 0,
     }
 }
 
@@ -100,11 +97,9 @@ fn instruction(i: Instruction) -> u64
     match i {
         Instruction::Update(_, a, e) => target(a) | expression(e),
         Instruction::Exchange(a, b) => target(a) | target(b),
-        Instruction::OpV(x) => bit(x),
-        Instruction::OpP(x) => bit(x),
+        Instruction::OpV(x) | Instruction::OpP(x) => bit(x),
         Instruction::Assert(e) => expression(e),
-        Instruction::Skip => 0,
-        Instruction::Call(_) => 0,
+        Instruction::Skip | Instruction::Call(_) => 0,
     }
 }
 
@@ -116,31 +111,24 @@ fn change(i: Instruction) -> u64
     match i {
         Instruction::Update(_, a, _) => changed(a),
         Instruction::Exchange(a, b) => changed(a) | changed(b),
-        Instruction::OpV(x) => bit(x),
-        Instruction::OpP(x) => bit(x),
-        Instruction::Assert(_) => 0,
-        Instruction::Skip => 0,
-        Instruction::Call(_) => 0,
+        Instruction::OpV(x) | Instruction::OpP(x) => bit(x),
+        Instruction::Assert(_) | Instruction::Skip | Instruction::Call(_) => 0,
     }
 }
 
 // What a block reads.
-pub fn reads(b: Block) -> u64
-    requires { BlockFit b }
-    ensures { Mask (block_reads b) result }
+pub fn reads(b: &Block) -> u64
+    requires { BlockFit b.now }
+    ensures { Mask (block_reads b.now) result }
 {
-    let e = b.entry;
-    let i = b.instruction;
-    let x = b.exit;
-    entry(e) | instruction(i) | exit(x)
+    entry(b.entry) | instruction(b.instruction) | exit(b.exit)
 }
 
 // What a block writes.
 #[tactic(auto, unfolding(rules::specs::Names::block_writes))]
-pub fn writes(b: Block) -> u64
-    requires { BlockFit b }
-    ensures { Mask (block_writes b) result }
+pub fn writes(b: &Block) -> u64
+    requires { BlockFit b.now }
+    ensures { Mask (block_writes b.now) result }
 {
-    let i = b.instruction;
-    change(i)
+    change(b.instruction)
 }

@@ -5,4 +5,4 @@ use Rattle.masks.proofs.mask.expression.Goals as goal
 
 pub returns-in-Two : goal.returns-in-Two
 returns-in-Two c =
-    mask_at expression_names c.in-Two.is (mask_or c.operand-in-Two.ensures c.operand-in-Two-2.ensures)
+    mask_at expression_names c.in-Two.is (mask_or c.operand.ensures c.operand-in-Two.ensures)

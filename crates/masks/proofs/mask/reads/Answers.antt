@@ -26,4 +26,4 @@ joined b x y z e i o =
     (mask_or (mask_or e i) o)
 
 pub returns : goal.returns
-returns c = joined c.args.b _ _ _ c.entry.ensures c.instruction.ensures c.exit.ensures
+returns c = joined c.args.b.now _ _ _ c.entry.ensures c.instruction.ensures c.exit.ensures
