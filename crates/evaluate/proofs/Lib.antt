@@ -1,3 +1,3 @@
--- Laws that other crates cite.
+-- The laws of this crate.
 pub mod Holds
 pub mod Written

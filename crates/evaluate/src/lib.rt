@@ -2,14 +2,13 @@
 // evaluated "on the new memory" before anything is written. Each function's answer is rules' (Leaf.antt).
 #![tactic(auto)]
 
-ghost use Rattle.std.specs.Prelude.{◌≡◌, ◌<◌, length, get_or};
+ghost use Rattle.std.specs.Prelude.{◌≡◌, ◌<◌, IfOk, length, get_or};
 ghost use Rattle.rules.specs.Machine.{memory_words};
-ghost use Rattle.rules.specs.Value.{negated, applied};
-ghost use Rattle.rules.specs.Leaf.{after, made, cell_place, target_place, operand_value, expression_value};
+ghost use Rattle.rules.specs.Leaf.{tried, cell_place, target_place, operand_value, expression_value};
 ghost use Rattle.laws.specs.Fit.{OperandFit, TargetFit, ExpressionFit};
-ghost use Rattle.evaluate.specs.Shown.{written, LocatedFit, located_shown, valued_shown};
+ghost use Rattle.evaluate.specs.Shown.{written};
 
-use rules::{Expression, Operand, Operator, Target};
+use rules::{Code, Expression, Operand, Target};
 
 // The first cell's place in the memory, and how many cells there are.
 const FIRST_CELL: usize = 32;
@@ -24,129 +23,76 @@ pub enum Writes {
     Two(usize, u32, usize, u32),
 }
 
-// A place in the memory, or the refusal 25.
-#[derive(Clone, Copy)]
-pub enum Located {
-    At(usize),
-    Outside,
-}
-
-// A value, or the refusal 25.
-#[derive(Clone, Copy)]
-pub enum Valued {
-    Value(u32),
-    Outside,
-}
-
 // The value that a place holds once the writes are made.
+#[tactic(auto, unfolding(crate::specs::Shown::written))]
 pub fn value_at(memory: &[u32], writes: Writes, place: usize) -> u32
     requires { place < length memory.now }
     ensures { result ≡ get_or (written writes memory.now) place 0 }
 {
     match writes {
-        Writes::Nothing => memory[place],
-        Writes::One(at, value) => {
-            if place == at {
-                return value;
-            }
-            memory[place]
-        }
-        Writes::Two(first, value, second, other) => {
-            if place == second {
-                return other;
-            }
-            if place == first {
-                return value;
-            }
-            memory[place]
-        }
+        Writes::One(at, value) if place == at => value,
+        Writes::Two(_, _, second, other) if place == second => other,
+        Writes::Two(first, value, _, _) if place == first => value,
+        _ => memory[place],
     }
 }
 
-// Where M[x] lies.
-fn cell_place(memory: &[u32], writes: Writes, x: u8) -> Located
+// Where M[x] lies; it lies in the memory.
+#[tactic(auto, unfolding(rules::specs::Base::pick, rules::specs::Leaf::cell_place))]
+fn cell_place(memory: &[u32], writes: Writes, x: u8) -> Result<usize, Code>
     requires { (length memory.now ≡ memory_words) × (x < 32) }
-    ensures { located_shown result ≡ cell_place (written writes memory.now) x }
+    ensures shown { tried result ≡ cell_place (written writes memory.now) x }
+    ensures inside { IfOk result (λ at. at < memory_words) }
 {
-    let address = value_at(memory, writes, laws::index(x));
+    let address = value_at(memory, writes, usize::from(x));
     if address < CELLS {
-        return Located::At(FIRST_CELL + laws::wide(address));
+        Ok(FIRST_CELL + address as usize)
+    } else {
+        Err(Code::Address)
     }
-    Located::Outside
 }
 
-// Where an update or an exchange writes; no writes are pending then.
-#[tactic(auto, unfolding(rules::specs::Leaf::target_place, crate::specs::Shown::located_shown, crate::specs::Shown::written))]
-pub fn target_place(memory: &[u32], a: Target) -> Located
+// Where an update or an exchange writes, which is in the memory; no writes are pending then.
+#[tactic(auto, unfolding(rules::specs::Leaf::target_place, crate::specs::Shown::written))]
+pub fn target_place(memory: &[u32], a: Target) -> Result<usize, Code>
     requires { (length memory.now ≡ memory_words) × TargetFit a }
-    ensures { located_shown result ≡ target_place memory.now a }
+    ensures shown { tried result ≡ target_place memory.now a }
+    ensures inside { IfOk result (λ at. at < memory_words) }
 {
     match a {
-        Target::Variable(x) => Located::At(laws::index(x)),
+        Target::Variable(x) => Ok(usize::from(x)),
         Target::Cell(x) => cell_place(memory, Writes::Nothing, x),
     }
 }
 
-// The value at a place that was found.
-#[tactic(auto, unfolding(rules::specs::Leaf::after, crate::specs::Shown::located_shown, crate::specs::Shown::valued_shown))]
-fn located_value(memory: &[u32], writes: Writes, place: Located) -> Valued
-    requires { (length memory.now ≡ memory_words) × LocatedFit place }
-    ensures { valued_shown result ≡ after (located_shown place) (λ at. made (get_or (written writes memory.now) at 0)) }
-{
-    match place {
-        Located::At(at) => Valued::Value(value_at(memory, writes, at)),
-        Located::Outside => Valued::Outside,
-    }
-}
-
-#[tactic(auto, unfolding(rules::specs::Leaf::operand_value, crate::specs::Shown::valued_shown))]
-fn operand(memory: &[u32], writes: Writes, a: Operand) -> Valued
+#[tactic(auto, unfolding(rules::specs::Leaf::after, rules::specs::Leaf::operand_value))]
+fn operand(memory: &[u32], writes: Writes, a: Operand) -> Result<u32, Code>
     requires { (length memory.now ≡ memory_words) × OperandFit a }
-    ensures { valued_shown result ≡ operand_value (written writes memory.now) a }
+    ensures { tried result ≡ operand_value (written writes memory.now) a }
 {
     match a {
-        Operand::Constant(v) => Valued::Value(v),
-        Operand::Variable(x) => Valued::Value(value_at(memory, writes, laws::index(x))),
-        Operand::Cell(x) => located_value(memory, writes, cell_place(memory, writes, x)),
+        Operand::Constant(v) => Ok(v),
+        Operand::Variable(x) => Ok(value_at(memory, writes, usize::from(x))),
+        Operand::Cell(x) => {
+            let at = cell_place(memory, writes, x)?;
+            Ok(value_at(memory, writes, at))
+        }
     }
 }
 
-#[tactic(auto, unfolding(rules::specs::Leaf::after, crate::specs::Shown::valued_shown))]
-fn negation(v: Valued) -> Valued
-    ensures { valued_shown result ≡ after (valued_shown v) (λ x. made (negated x)) }
-{
-    match v {
-        Valued::Value(x) => Valued::Value(value::negated(x)),
-        Valued::Outside => Valued::Outside,
-    }
-}
-
-// Both sides have been evaluated; the first met refusal is the first side's.
-#[tactic(auto, unfolding(rules::specs::Leaf::after, crate::specs::Shown::valued_shown))]
-fn application(operator: Operator, v: Valued, w: Valued) -> Valued
-    ensures { valued_shown result ≡ after (valued_shown v) (λ x. after (valued_shown w) (λ y. made (applied operator x y))) }
-{
-    match v {
-        Valued::Value(x) => match w {
-            Valued::Value(y) => Valued::Value(value::applied(operator, x, y)),
-            Valued::Outside => Valued::Outside,
-        },
-        Valued::Outside => Valued::Outside,
-    }
-}
-
-#[tactic(auto, unfolding(rules::specs::Leaf::expression_value))]
-pub fn expression(memory: &[u32], writes: Writes, e: Expression) -> Valued
+// Of two operands both are evaluated; the first met refusal is the first side's.
+#[tactic(auto, unfolding(rules::specs::Leaf::after, rules::specs::Leaf::expression_value))]
+pub fn expression(memory: &[u32], writes: Writes, e: Expression) -> Result<u32, Code>
     requires { (length memory.now ≡ memory_words) × ExpressionFit e }
-    ensures { valued_shown result ≡ expression_value (written writes memory.now) e }
+    ensures { tried result ≡ expression_value (written writes memory.now) e }
 {
     match e {
         Expression::Plain(a) => operand(memory, writes, a),
-        Expression::Not(a) => negation(operand(memory, writes, a)),
+        Expression::Not(a) => Ok(value::negated(operand(memory, writes, a)?)),
         Expression::Two(operator, a, b) => {
-            let v = operand(memory, writes, a);
-            let w = operand(memory, writes, b);
-            application(operator, v, w)
+            let v = operand(memory, writes, a)?;
+            let w = operand(memory, writes, b)?;
+            Ok(value::applied(operator, v, w))
         }
     }
 }

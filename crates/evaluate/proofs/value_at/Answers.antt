@@ -1,23 +1,15 @@
--- The value at a place is that of the later write to it, else that of the earlier, else the memory's.
-use Rattle.evaluate.proofs.Written.{no_write, at_one, beside_one, at_second, at_first, beside_both}
+-- A place that is not written holds what the memory holds.
+use Rattle.std.proofs.Common.{◌≡◌, ◌∙◌}
+use Rattle.evaluate.proofs.Written.{no_write, beside_one, beside_both}
 use Rattle.evaluate.proofs.value_at.Goals as goal
+use Rattle.evaluate.proofs.value_at.Goals.{in_default-via-in-One+else-place-at, in_default-via-in-Two-2+else-place-first, in_default-via-in_default}
 
-pub returns-then-place-at : goal.returns-then-place-at
-returns-then-place-at c = at_one c.args.memory.now c.args.place c.requires c.in-One.is c.if-place-at.true
-
-pub returns-then-place-second : goal.returns-then-place-second
-returns-then-place-second c = at_second c.args.memory.now c.args.place c.in-Two.is c.requires c.if-place-second.true
-
-pub returns-then-place-first : goal.returns-then-place-first
-returns-then-place-first c =
-    at_first c.args.memory.now c.args.place c.in-Two.is c.requires c.if-place-second.false c.if-place-first.true
-
-pub returns-in-Nothing : goal.returns-in-Nothing
-returns-in-Nothing c = no_write c.args.memory.now c.args.place c.in-Nothing.is
-
-pub returns-else-place-at : goal.returns-else-place-at
-returns-else-place-at c = beside_one c.args.memory.now c.args.place c.in-One.is c.if-place-at.false
-
-pub returns-else-place-first : goal.returns-else-place-first
-returns-else-place-first c =
-    beside_both c.args.memory.now c.args.place c.in-Two.is c.if-place-second.false c.if-place-first.false
+pub returns-in_default : goal.returns-in_default
+returns-in_default c =
+    elim c.in_default.branch [
+      | in_default-via-in-One+else-place-at w ↦ beside_one c.args.memory.now c.args.place w.in-One.is w.if-place-at.false
+      | in_default-via-in-Two-2+else-place-first w ↦
+          let e : w.in-Two-2.field-2 ≡ w.in-Two.second = cc in
+          beside_both c.args.memory.now c.args.place w.in-Two-2.is (λ h. w.if-place-second.false (h ∙ e)) w.if-place-first.false
+      | in_default-via-in_default w ↦ no_write c.args.memory.now c.args.place w.in_default.is
+    ]
