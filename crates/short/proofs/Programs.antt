@@ -2,13 +2,16 @@
 use Prim.Native.Nat.{ℕ, zero, suc, ◌+◌, ◌<◌, ◌≤◌}
 use native.Mathlib.Numerals.{add-one}
 use native.Mathlib.Omega.{arith}
-use native.Mathlib.Nat.{not-suc-le-zero, le_of_suc-le-suc, eq-or-lt_of_le}
+use native.Mathlib.Nat.{add-zero, zero-add, not-suc-le-zero, le_of_suc-le-suc, eq-or-lt_of_le}
 use mathlib.Core.Path.{◌≡◌, refl, sym, ap, subst, ◌∙◌}
 use mathlib.Core.Logic.{⊎_elim}
 use mathlib.Core.Bool.{Bool, true, false, ◌&&◌, ◌||◌, or-false, or-true, or_assoc, and-true, and-false}
 use mathlib.Core.List.{List, [], ◌∷◌, ◌++◌}
 use lib.ListN.{length, take, get_or, set, replicate}
 use lib.Dec.{eqb}
+use Rattle.std.specs.List.{list_any, list_all, range_with_len}
+use Rattle.std.proofs.lemmas.List.Folds.{list_any-append}
+use Rattle.std.proofs.lemmas.List.Recursion.{same_from_clauses}
 use lib.Seq.{get_or-set_same, get_or-set_other, take-suc, length-take-le, get_or-take}
 use borrow.Author.Tests.{eqb-true, eqb-false}
 use Rattle.rules.specs.Base.{pick, some_of, each_of, some_below}
@@ -112,3 +115,27 @@ some_below-at p (suc n) k h e =
 pub some_below-more : (p : ℕ → Bool) (n : ℕ) → some_below p n ≡ false → p n ≡ false → some_below p (n + 1) ≡ false
 unfolding some_below
 some_below-more p n e f = rw (add-one n, e) f
+
+-- rules' tests over a list are std's; `any` over a range of numbers from 0 on
+pub some_of-any : {A : Type 0} (p : A → Bool) (l : List A) → some_of p l ≡ list_any p l
+unfolding some_of
+some_of-any p = same_from_clauses (some_of p) (list_any p) (λ a b. p a || b) refl (λ _ _. refl) (λ _ _. refl)
+
+pub each_of-all : {A : Type 0} (p : A → Bool) (l : List A) → each_of p l ≡ list_all p l
+unfolding each_of
+each_of-all p = same_from_clauses (each_of p) (list_all p) (λ a b. p a && b) refl (λ _ _. refl) (λ _ _. refl)
+
+pub range_more : (a n : ℕ) → range_with_len a (suc n) ≡ range_with_len a n ++ (a + n) ∷ []
+range_more a zero = ap (λ (k : ℕ). k ∷ []) (sym (add-zero a))
+range_more a (suc n) =
+    let e : a + 1 + n ≡ a + suc n = omega arith in
+    ap (λ (l : List ℕ). a ∷ l) (range_more (a + 1) n ∙ ap (λ (k : ℕ). range_with_len (a + 1) n ++ k ∷ []) e)
+
+pub some_below-any : (p : ℕ → Bool) (n : ℕ) → some_below p n ≡ list_any p (range_with_len 0 n)
+unfolding some_below
+some_below-any p zero = refl
+some_below-any p (suc n) =
+    sym
+    (ap (list_any p) (range_more 0 n)
+    ∙ list_any-append p (range_with_len 0 n) ((0 + n) ∷ [])
+    ∙ rw (or-false (p (0 + n)), zero-add n, some_below-any p n) refl)
