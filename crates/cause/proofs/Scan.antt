@@ -5,7 +5,6 @@ use mathlib.Core.List.{List}
 use Prim.Native.Nat.{ℕ, zero, suc, ◌+◌, ◌-◌, ◌*◌, ◌≤◌, ◌<◌}
 use native.Mathlib.Omega.{arith}
 use native.Mathlib.Nat.{add-zero}
-use native.Mathlib.Decide.{ℕ_discrete}
 use lib.ListN.{length, drop, get_or}
 use lib.Bits.{bit_and}
 use lib.Dec.{eqb}
@@ -15,15 +14,16 @@ use Rattle.rules.specs.Machine.{Kept, view, history_count}
 use Rattle.rules.specs.declared.Block.{Block}
 use Rattle.laws.specs.Conflict.{conflicts}
 use Rattle.laws.proofs.View.{history-from, history-end}
-use Rattle.masks.specs.Masks.{Masks}
+use Rattle.masks.specs.Masks.{MasksOf}
+use Rattle.masks.specs.declared.Masks.{Masks}
 use Rattle.masks.proofs.Bits.{common}
 use Rattle.cause.specs.Held.{Scanned, kept_at, later_conflict}
 
 -- the blocks of entries i and j conflict, by the tables
-abbrev pub by_masks : List ℕ → List ℕ → List ℕ → ℕ → ℕ → Bool
-by_masks rd wr w i j =
-    not (eqb (bit_and (get_or wr (get_or w (483 + 2 * i) 0) 0) (get_or rd (get_or w (483 + 2 * j) 0) 0)) 0)
-    || not (eqb (bit_and (get_or rd (get_or w (483 + 2 * i) 0) 0) (get_or wr (get_or w (483 + 2 * j) 0) 0)) 0)
+abbrev pub by_masks : Masks → List ℕ → ℕ → ℕ → Bool
+by_masks masks w i j =
+    not (eqb (bit_and (get_or masks.writes (get_or w (483 + 2 * i) 0) 0) (get_or masks.reads (get_or w (483 + 2 * j) 0) 0)) 0)
+    || not (eqb (bit_and (get_or masks.reads (get_or w (483 + 2 * i) 0) 0) (get_or masks.writes (get_or w (483 + 2 * j) 0) 0)) 0)
 
 module _ (w : List ℕ) (p : Kept → Bool) where
   none_from : (d k : ℕ) → k + d ≡ history_count w → ((j : ℕ) → k ≤ j → j < history_count w → p (kept_at w j) ≡ false) → some_of p (drop k (view w).history) ≡ false
@@ -46,37 +46,22 @@ module _ (w : List ℕ) (p : Kept → Bool) where
       same : (k d : ℕ) → suc k + d ≡ k + suc d
       same k d = omega arith
 
-module _ (program : List Block) (rd wr w : List ℕ) (i : ℕ) (M : Masks program rd wr) (S : Scanned w i (length program)) where
-  by-masks : (j : ℕ) → j < history_count w → conflicts program (kept_at w i) (kept_at w j) ≡ by_masks rd wr w i j
+module _ (program : List Block) (masks : Masks) (w : List ℕ) (i : ℕ) (M : MasksOf program masks) (S : Scanned w i (length program)) where
+  by-masks : (j : ℕ) → j < history_count w → conflicts program (kept_at w i) (kept_at w j) ≡ by_masks masks w i j
   unfolding conflicts reads writes
   by-masks j h =
       let a = S.blocks i S.here in
       let b = S.blocks j h in
       sym (ap₂ ◌||◌ (common (M.write (get_or w (483 + 2 * i) 0) a) (M.read (get_or w (483 + 2 * j) 0) b)) (common (M.read (get_or w (483 + 2 * i) 0) a) (M.write (get_or w (483 + 2 * j) 0) b)))
 
-  pub none-later : ((j : ℕ) → i < j → j < history_count w → by_masks rd wr w i j ≡ false) → false ≡ later_conflict program w i
+  pub none-later : ((j : ℕ) → i < j → j < history_count w → by_masks masks w i j ≡ false) → false ≡ later_conflict program w i
   none-later h =
       let e : suc i + (history_count w - suc i) ≡ history_count w = omega (arith, S.here) in
       sym (none_from w (conflicts program (kept_at w i)) (history_count w - suc i) (suc i) e (λ j lo hi. by-masks j hi ∙ h j lo hi))
 
-  pub some-later : (j : ℕ) → i < j → j < history_count w → by_masks rd wr w i j ≡ true → true ≡ later_conflict program w i
+  pub some-later : (j : ℕ) → i < j → j < history_count w → by_masks masks w i j ≡ true → true ≡ later_conflict program w i
   some-later j lo hi t =
       let e : suc i + (j - suc i) ≡ j = omega arith in
       sym
       (some_at w (conflicts program (kept_at w i)) (j - suc i) (suc i) (omega arith)
       (ap (λ (n : ℕ). conflicts program (kept_at w i) (kept_at w n)) e ∙ by-masks j hi ∙ t))
-
--- what `conflict` answers on the masks that the code has read
-pub told :
-    (rd wr w : List ℕ) (i j b c : ℕ) {r v : Bool} → b ≡ get_or w (483 + 2 * i) 0 → c ≡ get_or w (483 + 2 * j) 0 →
-    r ≡ (not (eqb (bit_and (get_or wr b 0) (get_or rd c 0)) 0) || not (eqb (bit_and (get_or rd b 0) (get_or wr c 0)) 0)) → r ≡ v → by_masks rd wr w i j ≡ v
-told rd wr w i j b c p q e f =
-    ap₂ (λ (x y : ℕ). not (eqb (bit_and (get_or wr x 0) (get_or rd y 0)) 0) || not (eqb (bit_and (get_or rd x 0) (get_or wr y 0)) 0)) (sym p) (sym q) ∙ sym e ∙ f
-
--- one more entry passed
-pub onward : (p : ℕ → Bool) (i j : ℕ) → ((k : ℕ) → i < k → k < j → p k ≡ false) → p j ≡ false → (k : ℕ) → i < k → k < j + 1 → p k ≡ false
-onward p i j h e k lo hi = go (ℕ_discrete k j)
-  where
-    go : Dec (k ≡ j) → p k ≡ false
-    go (yes q) = ap p q ∙ e
-    go (no n) = h k lo (omega (arith, n))

@@ -3,10 +3,11 @@
 ghost use Rattle.std.specs.Prelude.{◌≡◌, not, ◌||◌, List, ◌<◌, length, eqb};
 ghost use Rattle.std.specs.Int.Bits.{bit_and};
 ghost use Rattle.rules.specs.declared.Block.{Block};
-ghost use Rattle.masks.specs.Masks.{Masks};
+ghost use Rattle.masks.specs.Masks.{MasksOf};
 ghost use Rattle.cause.specs.Held.{Scanned, later_conflict};
 
 use machine::BLOCK;
+use masks::Masks;
 
 // Whether two masks have a resource in common.
 fn meets(a: u64, b: u64) -> bool
@@ -19,28 +20,22 @@ fn meets(a: u64, b: u64) -> bool
 fn conflict(reads: u64, writes: u64, after: u64, changes: u64) -> bool
     ensures { result ≡ (not (eqb (bit_and writes after) 0) || not (eqb (bit_and reads changes) 0)) }
 {
-    if meets(writes, after) {
-        return true;
-    }
-    meets(reads, changes)
+    meets(writes, after) || meets(reads, changes)
 }
 
 // Whether some entry after i conflicts with it.
-pub fn held(m: &[u32], reads: &[u64; 128], writes: &[u64; 128], i: usize) -> bool
+pub fn held(m: &[u32], masks: &Masks, i: usize) -> bool
     requires { Scanned m.now i 128 }
-    ensures { (program : List Block) → Masks program reads.now writes.now → Scanned m.now i (length program) → result ≡ later_conflict program m.now i }
+    ensures { (program : List Block) → MasksOf program masks.now → Scanned m.now i (length program) → result ≡ later_conflict program m.now i }
 {
-    let n = laws::wide(m[1]);
-    let b = laws::wide(m[BLOCK + 2 * i]);
-    let read = reads[b];
-    let written = writes[b];
-    let mut j = i + 1;
-    while j < n {
-        let c = laws::wide(m[BLOCK + 2 * j]);
-        if conflict(read, written, reads[c], writes[c]) {
+    let b = m[BLOCK + 2 * i] as usize;
+    let reads = masks.reads[b];
+    let writes = masks.writes[b];
+    for j in i + 1..m[1] as usize {
+        let c = m[BLOCK + 2 * j] as usize;
+        if conflict(reads, writes, masks.reads[c], masks.writes[c]) {
             return true;
         }
-        j += 1;
     }
     false
 }

@@ -3,19 +3,15 @@ ghost use Rattle.cause.specs.Held.{Long, Newest};
 
 use machine::HISTORY;
 
-// The place of the newest entry, or the history count where there is none.
-pub fn newest(m: &[u32], identifier: u32) -> usize
+// The place of the newest entry, where there is one.
+pub fn newest(m: &[u32], identifier: u32) -> Option<usize>
     requires { Long m.now }
     ensures { Newest m.now identifier result }
 {
-    let n = laws::wide(m[1]);
-    let mut i = n;
-    while 0 < i {
-        let at = i - 1;
+    for at in (0..m[1] as usize).rev() {
         if m[HISTORY + 2 * at] == identifier {
-            return at;
+            return Some(at);
         }
-        i = at;
     }
-    n
+    None
 }

@@ -1,12 +1,7 @@
--- No entry from i on is the process's. The measure is how many entries are left.
+-- No entry from `at` on is the process's.
 use Rattle.std.proofs.Common.{◌≡◌, ℕ, ◌+◌, ◌*◌, ◌<◌, ◌≤◌, get_or}
+use Rattle.rules.specs.Machine.{history_count}
 use Rattle.cause.proofs.newest.newest.Given as goal
 
-abbrev pub invariant-loop-i : goal.invariant-loop-i
-invariant-loop-i l = record {
-  within : l.i ≤ l.n;
-  others : (j : ℕ) → l.i ≤ j → j < l.n → get_or l.m (482 + 2 * j) 0 ≡ l.identifier → ⊥;
-}
-
-abbrev pub decreases-loop-i : goal.decreases-loop-i
-decreases-loop-i l = l.i
+abbrev pub invariant-loop-at : goal.invariant-loop-at
+invariant-loop-at l = (j : ℕ) → l.at ≤ j → j < history_count l.m → get_or l.m (482 + 2 * j) 0 ≡ l.identifier → ⊥
