@@ -1,2 +1,2 @@
 -- What the contracts of this crate cite beside rules.
-pub mod Acts
+pub mod Acted

@@ -1,2 +1,0 @@
--- Laws that other crates cite.
-pub mod Tries
