@@ -1,12 +1,15 @@
 -- Laws of words as bytes: their lengths, the word and the bytes at an index, a turn of each loop. Assumes nothing.
 use mathlib.Core.Path.{◌≡◌, refl, sym, ap, ap₂, ◌∙◌}
-use mathlib.Core.List.{List, [], ◌∷◌, ◌++◌, append-nil}
-use Prim.Native.Nat.{ℕ, zero, suc, ◌+◌, ◌*◌, ◌/◌, ◌%◌, ◌≤◌, ◌<◌}
-use native.Mathlib.Nat.{add-zero, not-suc-le-zero, le_of_suc-le-suc}
-use native.Mathlib.Numerals.{add-one}
+use mathlib.Core.List.{List, [], ◌∷◌, ◌++◌}
+use Prim.Native.Nat.{ℕ, zero, suc, ◌+◌, ◌*◌, ◌≤◌, ◌<◌}
+use native.Mathlib.Nat.{add-zero}
 use native.Mathlib.Omega.{arith}
-use lib.ListN.{length, take, drop, get_or, set, length-drop, drop_of_length-le}
-use lib.Seq.{get_or-drop, drop-cons, take_all}
+use lib.ListN.{length, take, drop, get_or, set, length-drop}
+use lib.Seq.{get_or-drop, drop-cons, take_all, take-add}
+use Rattle.std.specs.Int.{w32, to_le_bytes}
+use Rattle.std.proofs.lemmas.Slice.{take-put_mid}
+use Rattle.std.proofs.lemmas.List.{take_more, take_more_set}
+use borrow.Rule.Slice.PartMut.{put_mid}
 use Rattle.rules.specs.Format.{word_from, word_at}
 use Rattle.rules.specs.Words.{words_of, bytes_of}
 
@@ -65,55 +68,32 @@ word-get b i h =
     ∙ ap₂ (λ (x y : ℕ). word_from x y (get_or r 2 0) (get_or r 3 0)) (at 0 ∙ ap (λ (j : ℕ). get_or b j 0) (add-zero (4 * i))) (at 1)
     ∙ ap₂ (λ (x y : ℕ). word_from (get_or b (4 * i) 0) (get_or b (4 * i + 1) 0) x y) (at 2) (at 3)
 
-byte_get : (w : List ℕ) (i k : ℕ) → i < length w → get_or (bytes_of w) (4 * i + k) 0 ≡ get_or (bytes_of (get_or w i 0 ∷ drop (suc i) w)) k 0
-byte_get w i k h =
-    sym (get_or-drop (4 * i) (bytes_of w) k 0)
-    ∙ ap (λ (q : List ℕ). get_or q k 0) (drop-bytes_of w i ∙ ap bytes_of (drop-cons w i 0 h))
+-- ---- a turn of each loop: the words, or the bytes of the words, that are passed are right
+pub word-turn :
+    (b w : List ℕ) (i v : ℕ) → i < length w → length b ≡ 4 * length w → take i w ≡ take i (words_of b) → v ≡ word_at b (4 * i) →
+    take (i + 1) (set w i v) ≡ take (i + 1) (words_of b)
+word-turn b w i v h l e f =
+    let n : length (words_of b) ≡ length w = length-words_of b (length w) l in
+    take_more_set w i v h
+    ∙ ap₂ (λ (xs : List ℕ) (x : ℕ). xs ++ x ∷ []) e (f ∙ sym (word-get b i (omega arith)))
+    ∙ sym (take_more (words_of b) i 0 (omega arith))
 
--- ---- the first i elements of s in front of the rest of d: a store takes them to one more, and in the end it is all of s
-abbrev pub front : List ℕ → List ℕ → ℕ → List ℕ
-front s d i = take i s ++ drop i d
-
-front-suc : (s d : List ℕ) (i : ℕ) → i < length s → i < length d → set (front s d i) i (get_or s i 0) ≡ front s d (suc i)
-front-suc [] d i h k = absurd (not-suc-le-zero h)
-front-suc (x ∷ xs) [] i h k = absurd (not-suc-le-zero k)
-front-suc (x ∷ xs) (y ∷ ys) zero h k = refl
-front-suc (x ∷ xs) (y ∷ ys) (suc i) h k = ap (λ (l : List ℕ). x ∷ l) (front-suc xs ys i (le_of_suc-le-suc h) (le_of_suc-le-suc k))
-
-pub front-turn : (s d : List ℕ) (i v : ℕ) → i < length s → i < length d → get_or s i 0 ≡ v → set (front s d i) i v ≡ front s d (i + 1)
-front-turn s d i v h k e = ap (λ (x : ℕ). set (front s d i) i x) (sym e) ∙ front-suc s d i h k ∙ ap (front s d) (sym (add-one i))
-
-pub front-all : (s d : List ℕ) (i : ℕ) → length s ≤ i → length d ≤ i → front s d i ≡ s
-front-all s d i h k =
-    ap (λ (r : List ℕ). r ++ drop i d) (take_all i s h) ∙ ap (λ (r : List ℕ). s ++ r) (drop_of_length-le d k) ∙ append-nil s
-
--- a turn of `bytes_of`: the four bytes of a word
-abbrev pub stored : List ℕ → ℕ → ℕ → List ℕ
-stored d i x =
-    set (set (set (set d (4 * i) (x % 256)) (4 * i + 1) (x / 256 % 256)) (4 * i + 2) (x / 65536 % 256)) (4 * i + 3) (x / 16777216 % 256)
-
-pub four-turn : (w d : List ℕ) (i : ℕ) → i < length w → length d ≡ 4 * length w
-    → stored (front (bytes_of w) d (4 * i)) i (get_or w i 0) ≡ front (bytes_of w) d (4 * (i + 1))
+-- the four bytes of word i
+four-bytes : (w : List ℕ) (i : ℕ) → i < length w → take 4 (drop (4 * i) (bytes_of w)) ≡ to_le_bytes w32 (get_or w i 0)
 unfolding bytes_of
-four-turn w d i h l =
-    let x : ℕ = get_or w i 0 in
-    let b : length (bytes_of w) ≡ 4 * length w = length-bytes_of w in
-    let f : (j : ℕ) → List ℕ = λ j. front (bytes_of w) d j in
-    let g0 : get_or (bytes_of w) (4 * i) 0 ≡ x % 256 = ap (λ (j : ℕ). get_or (bytes_of w) j 0) (sym (add-zero (4 * i))) ∙ byte_get w i 0 h in
-    let t0 : set (f (4 * i)) (4 * i) (x % 256) ≡ f (4 * i + 1) = front-turn (bytes_of w) d (4 * i) (x % 256) (omega arith) (omega arith) g0 in
-    let t1 : set (f (4 * i + 1)) (4 * i + 1) (x / 256 % 256) ≡ f (4 * i + 2) =
-    front-turn (bytes_of w) d (4 * i + 1) (x / 256 % 256) (omega arith) (omega arith) (byte_get w i 1 h) ∙ ap f (re (4 * i) 1) in
-    let t2 : set (f (4 * i + 2)) (4 * i + 2) (x / 65536 % 256) ≡ f (4 * i + 3) =
-    front-turn (bytes_of w) d (4 * i + 2) (x / 65536 % 256) (omega arith) (omega arith) (byte_get w i 2 h) ∙ ap f (re (4 * i) 2) in
-    let t3 : set (f (4 * i + 3)) (4 * i + 3) (x / 16777216 % 256) ≡ f (4 * (i + 1)) =
-    front-turn (bytes_of w) d (4 * i + 3) (x / 16777216 % 256) (omega arith) (omega arith) (byte_get w i 3 h) ∙ ap f (up i) in
-    ap (λ (r : List ℕ). set (set (set r (4 * i + 1) (x / 256 % 256)) (4 * i + 2) (x / 65536 % 256)) (4 * i + 3) (x / 16777216 % 256)) t0
-    ∙ ap (λ (r : List ℕ). set (set r (4 * i + 2) (x / 65536 % 256)) (4 * i + 3) (x / 16777216 % 256)) t1
-    ∙ ap (λ (r : List ℕ). set r (4 * i + 3) (x / 16777216 % 256)) t2
-    ∙ t3
-  where
-    re : (a k : ℕ) → a + k + 1 ≡ a + (k + 1)
-    re a k = omega arith
+four-bytes w i h = ap (take 4) (drop-bytes_of w i ∙ ap bytes_of (drop-cons w i 0 h))
 
-    up : (i : ℕ) → 4 * i + 3 + 1 ≡ 4 * (i + 1)
-    up i = omega arith
+pub bytes-turn :
+    (w b : List ℕ) (i k : ℕ) (f : List ℕ) → i < length w → length b ≡ 4 * length w → take (4 * i) b ≡ take (4 * i) (bytes_of w) →
+    f ≡ to_le_bytes w32 (get_or w i 0) → take (4 * (i + 1)) (put_mid (4 * i) k b f) ≡ take (4 * (i + 1)) (bytes_of w)
+bytes-turn w b i k f h l e g =
+    let n : length f ≡ 4 = ap length g in
+    let s : 4 * i + 4 ≡ 4 * (i + 1) = omega arith in
+    take-put_mid (4 * i) k b f (4 * (i + 1)) (omega arith) (omega arith)
+    ∙ ap₂ ◌++◌ e (g ∙ sym (four-bytes w i h))
+    ∙ sym (take-add (4 * i) 4 (bytes_of w))
+    ∙ ap (λ (j : ℕ). take j (bytes_of w)) s
+
+-- lists that begin alike are alike where nothing comes after
+pub whole : (a b : List ℕ) (n : ℕ) → length a ≤ n → length b ≤ n → take n a ≡ take n b → a ≡ b
+whole a b n h k e = sym (take_all n a h) ∙ e ∙ take_all n b k

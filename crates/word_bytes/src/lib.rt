@@ -10,10 +10,7 @@ pub fn word_at(bytes: &[u8], at: usize) -> u32
     requires { at + 4 ≤ length bytes.now }
     ensures { result ≡ word_at bytes.now at }
 {
-    laws::word(bytes[at])
-        + 256 * laws::word(bytes[at + 1])
-        + 65536 * laws::word(bytes[at + 2])
-        + 16777216 * laws::word(bytes[at + 3])
+    u32::from_le_bytes([bytes[at], bytes[at + 1], bytes[at + 2], bytes[at + 3]])
 }
 
 // The words of `bytes`, all of them, into `words`.
@@ -21,10 +18,8 @@ pub fn words_of(bytes: &[u8], words: &mut [u32])
     requires { length bytes.now ≡ 4 * length words.old }
     ensures { words.new ≡ words_of bytes.now }
 {
-    let mut i = 0;
-    while i < words.len() {
-        words[i] = word_at(bytes, 4 * i);
-        i += 1;
+    for (i, word) in words.iter_mut().enumerate() {
+        *word = word_at(bytes, 4 * i);
     }
 }
 
@@ -33,13 +28,7 @@ pub fn bytes_of(words: &[u32], bytes: &mut [u8])
     requires { length bytes.old ≡ 4 * length words.now }
     ensures { bytes.new ≡ bytes_of words.now }
 {
-    let mut i = 0;
-    while i < words.len() {
-        let word = words[i];
-        bytes[4 * i] = (word % 256) as u8;
-        bytes[4 * i + 1] = (word / 256 % 256) as u8;
-        bytes[4 * i + 2] = (word / 65536 % 256) as u8;
-        bytes[4 * i + 3] = (word / 16777216 % 256) as u8;
-        i += 1;
+    for (i, word) in words.iter().enumerate() {
+        bytes[4 * i..4 * i + 4].copy_from_slice(&word.to_le_bytes());
     }
 }
