@@ -8,6 +8,7 @@ use Prim.Native.Nat.{ℕ, zero, suc, ◌<◌, ◌≤◌, max}
 use native.Mathlib.Nat.{not-suc-le-zero}
 use native.Mathlib.Omega.{arith}
 use lib.ListN.{length}
+use Rattle.std.proofs.Common.{Some, None}
 use lib.Dec.{eqb, ltb}
 use borrow.Author.Tests.{lt-ltb, le-ltb, ltb-true, ltb-false}
 use Rattle.rules.specs.Base.{pick}
@@ -15,7 +16,7 @@ use Rattle.rules.specs.Format.{main}
 use Rattle.rules.specs.Calls.{Calling, home_at, calls_at, sum_of, deepest_of, largest, depth, peak, bad15, deepest, most_rows}
 use Rattle.laws.proofs.Search.{lt-or_le}
 use Rattle.laws.specs.Acyclic.{Acyclic}
-use Rattle.calls.specs.Peaks.{over, levels_tried, peak_within, capped, MainPeak}
+use Rattle.calls.specs.Peaks.{over, levels_tried, peak_within, capped, peak_unless_refused}
 use Rattle.laws.proofs.Tests.{never}
 use Rattle.laws.proofs.Rank.{largest-same, largest-above}
 use Rattle.laws.proofs.PeakRight.{peak-right}
@@ -90,9 +91,14 @@ module _ (t : Calling) where
         sum_same (depth t) (peak_within t d) (peak t) d (calls_at t b) (λ m. peak-same d m) (omega arith)))
         ∙ sym ((peak-right t acyclic).peak_is l)
 
-    pub main-peak_is : (r p : ℕ) → r ≡ p → p ≡ capped (peak_within t levels_tried main) → MainPeak t r
-    unfolding bad15
-    main-peak_is r p q e =
-        let d = decided (depth t main) (peak_within t levels_tried main) (peak t main) r (peak-same levels_tried main)
-        (peak-over levels_tried main) (q ∙ e) in
-        record { refused = d.0; own = d.1 }
+    -- main's peak with nine levels is its own, or over where code 15 is given
+    module _ (p : ℕ) (e : p ≡ capped (peak_within t levels_tried main)) where
+      tests : (bad15 t ≡ ltb most_rows p) × (bad15 t ≡ false → p ≡ peak t main)
+      unfolding bad15
+      tests = decided (depth t main) (peak_within t levels_tried main) (peak t main) p (peak-same levels_tried main) (peak-over levels_tried main) e
+
+      pub main_peak-own : p < over → Some p ≡ peak_unless_refused t
+      main_peak-own l = let f : bad15 t ≡ false = tests.0 ∙ le-ltb most_rows p (omega arith) in rw f (ap Some (tests.1 f))
+
+      pub main_peak-refused : over ≤ p → None ≡ peak_unless_refused t
+      main_peak-refused l = let f : bad15 t ≡ true = tests.0 ∙ lt-ltb most_rows p (omega arith) in rw f refl

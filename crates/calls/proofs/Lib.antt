@@ -1,6 +1,7 @@
 -- Laws that the proofs of several functions cite.
+pub mod Found
 pub mod Levels
-pub mod Table
+pub mod Labels
 pub mod Grid
 pub mod Memo
 pub mod Passed

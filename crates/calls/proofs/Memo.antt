@@ -1,23 +1,24 @@
 -- The peak of a label and the sum of a call's labels, as the loops make them, and what the memo keeps of them. Assumes nothing.
-use mathlib.Core.Path.{◌≡◌, refl, sym, ap, subst, ◌∙◌}
+use mathlib.Core.Path.{◌≡◌, refl, sym, ap, ◌∙◌}
 use mathlib.Core.Bool.{Bool, true, false}
-use mathlib.Core.List.{List}
+use mathlib.Core.List.{List, []}
 use mathlib.Core.Logic.{⊎_elim, ◌⊎◌, inl, inr}
-use Prim.Native.Nat.{ℕ, zero, suc, ◌+◌, ◌*◌, ◌-◌, ◌/◌, ◌%◌, ◌<◌, ◌≤◌, max}
+use Prim.Native.Nat.{ℕ, zero, suc, ◌+◌, ◌-◌, ◌<◌, ◌≤◌, max}
 use native.Mathlib.Numerals.{add-one}
 use native.Mathlib.Omega.{arith}
-use lib.ListN.{length, get_or, set, take, drop, length-set, get_or-replicate}
-use lib.Seq.{get_or-take, get_or-set_same, get_or-set_other}
+use lib.ListN.{length, get_or, set, take, replicate, length-set, get_or-replicate}
+use lib.Seq.{get_or-take, get_or-set_same, get_or-set_other, take-suc}
 use lib.Dec.{eqb}
-use borrow.Author.Tests.{eqb-true, eqb-false}
-use Rattle.rules.specs.Base.{pick, zeros}
-use Rattle.rules.specs.Format.{labels}
-use Rattle.rules.specs.Calls.{Calling, sum_of, largest}
-use Rattle.laws.specs.CallTable.{calls_from, calling_from}
-use Rattle.laws.proofs.CallTable.{calls-length, calls-at}
-use Rattle.calls.specs.Table.{Tabled}
-use Rattle.calls.specs.Peaks.{over, levels_tried, peak_within, capped, Memo}
-use Rattle.calls.proofs.Table.{called_more, sum_more}
+use Rattle.std.proofs.lemmas.List.{get_or_past}
+use Rattle.laws.proofs.Search.{lt-or_le}
+use borrow.Author.Tests.{eq-eqb, ne_eqb, eqb-true, eqb-false}
+use Rattle.std.proofs.Common.{Option, Some, None}
+use Rattle.rules.specs.Base.{pick}
+use Rattle.rules.specs.Calls.{Calling, calls_at, sum_of, largest}
+use Rattle.laws.specs.CallTable.{calling_from}
+use Rattle.laws.proofs.CallTable.{calls-length}
+use Rattle.calls.specs.Peaks.{over, peak_within, capped, Memo}
+use Rattle.calls.proofs.Labels.{sum_more}
 
 eq-or_ne : (m n : ℕ) → (m ≡ n) ⊎ (m ≡ n → ⊥)
 eq-or_ne m n = go (eqb m n) refl
@@ -26,46 +27,34 @@ eq-or_ne m n = go (eqb m n) refl
     go true e = inl (eqb-true m n e)
     go false e = inr (eqb-false m n e)
 
--- ---- the sum of a call's labels
-pub sum-none : (f : ℕ → ℕ) (names : List ℕ) (b : ℕ) → 0 ≡ capped (sum_of f (take 0 (drop (8 * b) names)))
+-- ---- the sum of some labels
+pub sum-none : (f : ℕ → ℕ) (ls : List ℕ) → 0 ≡ capped (sum_of f (take 0 ls))
 unfolding sum_of
-sum-none f names b = refl
+sum-none f ls = refl
 
-pub sum-at : (f : ℕ → ℕ) (ls : List ℕ) (j k v : ℕ) → j ≡ k → v ≡ capped (sum_of f (take j ls)) → v ≡ capped (sum_of f (take k ls))
-sum-at f ls j k v e h = subst (λ (i : ℕ). v ≡ capped (sum_of f (take i ls))) e h
+pub sum-next : (f : ℕ → ℕ) (ls : List ℕ) (k v w : ℕ) → k < length ls → v ≡ capped (sum_of f (take k ls)) → w ≡ capped (f (get_or ls k 0))
+    → capped (v + w) ≡ capped (sum_of f (take (k + 1) ls))
+sum-next f ls k v w lk p q =
+    let e = ap (sum_of f) (ap (λ (i : ℕ). take i ls) (add-one k) ∙ take-suc ls k 0 lk) ∙ sum_more f (take k ls) (get_or ls k 0) in
+    omega arith
 
-module _ (homes counts names : List ℕ) (n : ℕ) (tabled : Tabled homes counts names n) (f : ℕ → ℕ) where
-  pub sum-next : (b k v w : ℕ) → b < n → k < get_or counts b 0 → v ≡ capped (sum_of f (take k (drop (8 * b) names)))
-      → w ≡ capped (f (get_or names (8 * b + k) 0))
-      → capped (v + w) ≡ capped (sum_of f (take (k + 1) (drop (8 * b) names)))
-  sum-next b k v w lb lk p q =
-      let e = ap (sum_of f) (called_more homes counts names n tabled b k lb lk)
-      ∙ sum_more f (take k (drop (8 * b) names)) (get_or names (8 * b + k) 0) in
-      omega arith
-
-  -- ---- the largest sum over the blocks of a label
+-- ---- the largest sum over the blocks of a label
+module _ (homes counts names : List ℕ) (n : ℕ) (f : ℕ → ℕ) where
   pub largest-none : (l : ℕ) → 0 ≡ capped (largest (calling_from homes counts names n) (sum_of f) l 0)
   unfolding largest
   largest-none l = refl
 
-  pub largest-next : (l b count v w : ℕ) → b < n → count ≡ pick (eqb (get_or homes b 0) l) (get_or counts b 0) 0
-      → v ≡ capped (largest (calling_from homes counts names n) (sum_of f) l b) → w ≡ capped (sum_of f (take count (drop (8 * b) names)))
+  -- a block of the label's process block counts, and another does not
+  pub largest-here : (l b v w : ℕ) → b < n → get_or homes b 0 ≡ l → v ≡ capped (largest (calling_from homes counts names n) (sum_of f) l b)
+      → w ≡ capped (sum_of f (calls_at (calling_from homes counts names n) b))
       → max v w ≡ capped (largest (calling_from homes counts names n) (sum_of f) l (b + 1))
-  unfolding largest pick sum_of
-  largest-next l b count v w lb e p q =
-      rw (add-one b, get_or-take n homes b 0 lb, calls-at counts names n b lb) (go (eqb (get_or homes b 0) l) e)
-    where
-      go : (t : Bool) → count ≡ pick t (get_or counts b 0) 0
-          → max v w ≡ capped (max (largest (calling_from homes counts names n) (sum_of f) l b)
-          (pick t (sum_of f (take (get_or counts b 0) (drop (8 * b) names))) 0))
-      go true e = let r = q ∙ ap (λ (k : ℕ). capped (sum_of f (take k (drop (8 * b) names)))) e in omega arith
-      go false e = let r = q ∙ ap (λ (k : ℕ). capped (sum_of f (take k (drop (8 * b) names)))) e in omega arith
+  unfolding largest pick
+  largest-here l b v w lb e p q = rw (add-one b, get_or-take n homes b 0 lb, eq-eqb (get_or homes b 0) l e) (omega arith)
 
--- a block's own labels, or none
-pub count-few : (v : Bool) (count few : ℕ) → count ≡ pick v few 0 → count ≤ few
-unfolding pick
-count-few true count few e = omega arith
-count-few false count few e = omega arith
+  pub largest-other : (l b v : ℕ) → b < n → (get_or homes b 0 ≡ l → ⊥) → v ≡ capped (largest (calling_from homes counts names n) (sum_of f) l b)
+      → v ≡ capped (largest (calling_from homes counts names n) (sum_of f) l (b + 1))
+  unfolding largest pick
+  largest-other l b v lb d p = rw (add-one b, get_or-take n homes b 0 lb, ne_eqb (get_or homes b 0) l d) (omega arith)
 
 -- ---- the peak of a label
 pub peak-over : (t : Calling) (levels l : ℕ) → levels ≡ 0 → over ≡ capped (peak_within t levels l)
@@ -73,51 +62,62 @@ unfolding peak_within
 peak-over t levels l e = rw e
 
 -- what the loop over the blocks leaves is the peak at one level more
-pub peak-next : (homes counts names : List ℕ) (n levels l v b : ℕ) → (levels ≡ 0 → ⊥) → b ≡ n
-    → v ≡ capped (largest (calling_from homes counts names n) (sum_of (peak_within (calling_from homes counts names n) (levels - 1))) l b)
+pub peak-next : (homes counts names : List ℕ) (n levels l v : ℕ) → (levels ≡ 0 → ⊥)
+    → v ≡ capped (largest (calling_from homes counts names n) (sum_of (peak_within (calling_from homes counts names n) (levels - 1))) l n)
     → capped (v + 1) ≡ capped (peak_within (calling_from homes counts names n) levels l)
 unfolding peak_within
-peak-next homes counts names n zero l v b some e h = absurd (some refl)
-peak-next homes counts names n (suc levels) l v b some e h =
+peak-next homes counts names n zero l v some h = absurd (some refl)
+peak-next homes counts names n (suc levels) l v some h =
     let down : suc levels - 1 ≡ levels = omega arith in
-    let all : b ≡ length (calls_from counts names n) = e ∙ sym (calls-length counts names n) in
-    let r = rw (down, all) at h in
-    omega arith
+    let r = rw down at h in
+    rw (calls-length counts names n) (omega arith)
 
--- ---- the memo, at a label with levels left
--- zeros say nothing
-pub memo_zeros : (t : Calling) → Memo t (zeros (levels_tried * labels))
-memo_zeros t = record { size = refl; right = λ i l known. absurd (known (get_or-replicate (levels_tried * labels) i 0 0 l)) }
+-- ---- the memo
+-- one that is empty holds nothing
+abbrev pub no_row : List (Option ℕ)
+no_row = replicate 256 None
 
-module _
-    (t : Calling)
-    (memo : List ℕ)
-    (h : Memo t memo)
-    (levels l i : ℕ)
-    (some : levels ≡ 0 → ⊥)
-    (ll : l < labels)
-    (li : i < levels_tried * labels)
-    (at : i ≡ (levels - 1) * labels + l)
+pub memo_none : (t : Calling) → Memo t (replicate 9 no_row)
+memo_none t = record { right = λ levels l v e. absurd (empty levels l v e) }
   where
-    place : peak_within t (suc (i / labels)) (i % labels) ≡ peak_within t levels l
-    place =
-        let d : suc (i / labels) ≡ levels = omega arith in
-        let r : i % labels ≡ l = omega arith in
-        rw (d, r)
+    inner : (l v : ℕ) → get_or no_row l None ≡ Some v → ⊥
+    inner l v e =
+        ⊎_elim (λ lt. let r : None ≡ Some v = sym (get_or-replicate 256 l None None lt) ∙ e in cc)
+        (λ ge. let r : None ≡ Some v = sym (get_or_past no_row l None ge) ∙ e in cc) (lt-or_le l 256)
 
-    pub memo_read : (get_or memo i 0 ≡ 0 → ⊥) → get_or memo i 0 ≡ capped (peak_within t levels l)
-    memo_read known = h.right i li known ∙ ap capped place
+    empty : (levels l v : ℕ) → get_or (get_or (replicate 9 no_row) levels []) l None ≡ Some v → ⊥
+    empty levels l v e =
+        ⊎_elim (λ lt. inner l v (rw (get_or-replicate 9 levels no_row [] lt) at e))
+        (λ ge. let r : None ≡ Some v = rw (get_or_past (replicate 9 no_row) levels [] ge) at e in cc) (lt-or_le levels 9)
 
-    pub memo_write : (v : ℕ) → v ≡ capped (peak_within t levels l) → Memo t (set memo i v)
-    memo_write v e =
-        record {
-          size = length-set memo i v ∙ h.size;
-          right = λ j lj known. ⊎_elim (here j) (other j lj known) (eq-or_ne j i);
-        }
-      where
-        here : (j : ℕ) → j ≡ i → get_or (set memo i v) j 0 ≡ capped (peak_within t (suc (j / labels)) (j % labels))
-        here j q = rw q (get_or-set_same memo i v 0 (omega (arith, h.size)) ∙ e ∙ ap capped (sym place))
+-- reading after a write: what was written, or what was there
+read_set : {A : Type 0} (xs : List A) (i j : ℕ) (x d : A) → ((j ≡ i) × (get_or (set xs i x) j d ≡ x)) ⊎ (get_or (set xs i x) j d ≡ get_or xs j d)
+read_set {A} xs i j x d = ⊎_elim (λ e. at e (lt-or_le i (length xs))) (λ ne. inr (get_or-set_other xs i j x d ne)) (eq-or_ne j i)
+  where
+    at : j ≡ i → (i < length xs) ⊎ (length xs ≤ i) → ((j ≡ i) × (get_or (set xs i x) j d ≡ x)) ⊎ (get_or (set xs i x) j d ≡ get_or xs j d)
+    at e (inl lt) = inl (e, ap (λ (k : ℕ). get_or (set xs i x) k d) e ∙ get_or-set_same xs i x d lt)
+    at e (inr ge) =
+        let same = length-set xs i x in
+        inr (get_or_past (set xs i x) j d (omega arith) ∙ sym (get_or_past xs j d (omega arith)))
 
-        other : (j : ℕ) → j < levels_tried * labels → (get_or (set memo i v) j 0 ≡ 0 → ⊥) → (j ≡ i → ⊥)
-            → get_or (set memo i v) j 0 ≡ capped (peak_within t (suc (j / labels)) (j % labels))
-        other j lj known d = get_or-set_other memo i j v 0 d ∙ h.right j lj (λ z. known (get_or-set_other memo i j v 0 d ∙ z))
+module _ (t : Calling) (memo : List (List (Option ℕ))) (h : Memo t memo) (levels l left : ℕ) (at : suc left ≡ levels) where
+  pub memo_read : (v : ℕ) → get_or (get_or memo left []) l None ≡ Some v → v ≡ capped (peak_within t levels l)
+  memo_read v e = h.right left l v e ∙ ap (λ (k : ℕ). capped (peak_within t k l)) at
+
+  pub memo_write : (v : ℕ) → v ≡ capped (peak_within t levels l) → Memo t (set memo left (set (get_or memo left []) l (Some v)))
+  memo_write v p = record { right = λ levels' l' v' e. row levels' l' v' e (read_set memo left levels' (set (get_or memo left []) l (Some v)) []) }
+    where
+      place : (l' v' : ℕ) → get_or (set (get_or memo left []) l (Some v)) l' None ≡ Some v'
+          → ((l' ≡ l) × (get_or (set (get_or memo left []) l (Some v)) l' None ≡ Some v))
+          ⊎ (get_or (set (get_or memo left []) l (Some v)) l' None ≡ get_or (get_or memo left []) l' None)
+          → v' ≡ capped (peak_within t (suc left) l')
+      place l' v' e (inl (q, r)) = let s : v' ≡ v = cc in s ∙ p ∙ rw (at, q) refl
+      place l' v' e (inr r) = h.right left l' v' (sym r ∙ e)
+
+      row : (levels' l' v' : ℕ) → get_or (get_or (set memo left (set (get_or memo left []) l (Some v))) levels' []) l' None ≡ Some v'
+          → ((levels' ≡ left) × (get_or (set memo left (set (get_or memo left []) l (Some v))) levels' [] ≡ set (get_or memo left []) l (Some v)))
+          ⊎ (get_or (set memo left (set (get_or memo left []) l (Some v))) levels' [] ≡ get_or memo levels' [])
+          → v' ≡ capped (peak_within t (suc levels') l')
+      row levels' l' v' e (inl (q, r)) =
+          rw q (place l' v' (ap (λ (k : List (Option ℕ)). get_or k l' None) (sym r) ∙ e) (read_set (get_or memo left []) l l' (Some v) None))
+      row levels' l' v' e (inr r) = h.right levels' l' v' (ap (λ (k : List (Option ℕ)). get_or k l' None) (sym r) ∙ e)

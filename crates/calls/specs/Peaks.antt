@@ -1,6 +1,6 @@
 -- The peak of a label as the code goes down to it: by at most nine levels, over a memo. For `main_peak` and its callees.
-use Rattle.std.specs.Prelude.{◌≡◌, false, List, ℕ, zero, suc, ◌*◌, ◌/◌, ◌%◌, ◌<◌, min, length, get_or, ltb}
-use Rattle.rules.specs.Format.{labels, main}
+use Rattle.std.specs.Prelude.{◌≡◌, List, [], ℕ, zero, suc, min, length, get_or, cond, Option, Some, None}
+use Rattle.rules.specs.Format.{main}
 use Rattle.rules.specs.Calls.{Calling, sum_of, largest, peak, bad15, deepest, most_rows}
 
 -- more rows than there may be: where a peak is over, that is all that is told of it
@@ -20,13 +20,10 @@ peak_within t (suc levels) l = suc (largest t (sum_of (peak_within t levels)) l 
 abbrev pub capped : ℕ → ℕ
 capped x = min over x
 
--- what a memo of nine levels by 256 labels holds: 0, or the peak of the label with so many levels left
-pub record Memo (t : Calling) (memo : List ℕ) : Type 0 where
-  pub size : length memo ≡ levels_tried * labels
-  pub right : (i : ℕ) → i < levels_tried * labels → (get_or memo i 0 ≡ 0 → ⊥)
-      → get_or memo i 0 ≡ capped (peak_within t (suc (i / labels)) (i % labels))
+-- what a memo holds of each label, with each number of levels left: nothing, or its peak
+pub record Memo (t : Calling) (memo : List (List (Option ℕ))) : Type 0 where
+  pub right : (levels l v : ℕ) → get_or (get_or memo levels []) l None ≡ Some v → v ≡ capped (peak_within t (suc levels) l)
 
--- what is promised of main's peak: it is over just where code 15 is given, and else it is main's own
-pub record MainPeak (t : Calling) (r : ℕ) : Type 0 where
-  pub refused : bad15 t ≡ ltb most_rows r
-  pub own : bad15 t ≡ false → r ≡ peak t main
+-- main's peak, or nothing where code 15 is given
+abbrev pub peak_unless_refused : Calling → Option ℕ
+peak_unless_refused t = cond (bad15 t) None (Some (peak t main))

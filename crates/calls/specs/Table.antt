@@ -1,11 +1,14 @@
--- What every function of this crate asks of its tables.
-use Rattle.std.specs.Prelude.{List, ℕ, ◌*◌, ◌<◌, ◌≤◌, length, get_or}
+-- The table of calls as rules has it, and what every function of this crate asks of it.
+use Rattle.std.specs.Prelude.{ℕ, ◌<◌, ◌≤◌, get_or}
 use Rattle.rules.specs.Format.{most_blocks}
+use Rattle.rules.specs.Calls.{Calling}
+use Rattle.laws.specs.CallTable.{calling_from}
+use Rattle.calls.specs.declared.table.Calls.{Calls}
 
--- places for n blocks in each table, and at most eight labels called by each block
-pub record Tabled (homes counts names : List ℕ) (n : ℕ) : Type 0 where
-  pub few : n ≤ most_blocks
-  pub all_homes : n ≤ length homes
-  pub all_counts : n ≤ length counts
-  pub all_names : 8 * n ≤ length names
-  pub few_names : (b : ℕ) → b < n → get_or counts b 0 ≤ 8
+abbrev pub calling : Calls → Calling
+calling c = calling_from c.homes c.counts c.names c.count
+
+-- at most 128 blocks, and at most eight labels called by each
+pub record Tabled (c : Calls) : Type 0 where
+  pub few : c.count ≤ most_blocks
+  pub few_names : (b : ℕ) → b < c.count → get_or c.counts b 0 ≤ 8
