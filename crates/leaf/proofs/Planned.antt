@@ -1,6 +1,5 @@
--- What a plan tells its caller: the move or the code that rules says, places that are written in the memory, and a place to stand at
--- whose label is below 256 and whose stage is one of the three. Assumes that the block is fit.
-use mathlib.Core.Path.{◌≡◌, sym, ap, ◌∙◌, subst, subst⁻¹}
+-- Where a leaf's step leads: to a place whose label is below 256 and whose stage is one of the three. Assumes that the block is fit.
+use mathlib.Core.Path.{subst⁻¹}
 use mathlib.Core.Bool.{Bool, true, false}
 use mathlib.Core.List.{List}
 use Prim.Native.Nat.{ℕ, ◌≤◌, ◌<◌}
@@ -16,27 +15,10 @@ use Rattle.rules.specs.declared.Exit.{Exit}
 use Rattle.rules.specs.declared.Instruction.{Instruction}
 use Rattle.rules.specs.declared.Place.{Place}
 use Rattle.laws.specs.Fit.{BlockFit}
-use Rattle.evaluate.specs.Shown.{written, WritesFit}
-use Rattle.evaluate.specs.declared.Writes.{Writes}
 use Rattle.evaluate.proofs.Holds.{Holds, pick-holds, after_holds}
 use Rattle.leaf.specs.declared.place.Side.{Side}
-use Rattle.leaf.specs.declared.plan.LeafPlan.{LeafPlan}
-use Rattle.leaf.specs.Shown.{Plans, PlanFit, plan_shown, moved_to}
 use Rattle.leaf.specs.Side.{SideFit, side_place, leaf_step}
 use Rattle.leaf.proofs.Sides.{forward-is, undo-is}
-
--- ---- a plan that moves, and one that is refused
-module _ {memory : List ℕ} {r : LeafPlan} {t : Tried Moved} (h : Plans memory r t) where
-  pub plan-moves : {q : Place} {writes : Writes} → r ≡ LeafPlan.Moves q writes → t ≡ made (moved_to q (written writes memory))
-  unfolding plan_shown
-  plan-moves e = sym h.shown ∙ ap (plan_shown memory) e
-
-  pub plan-fit : {q : Place} {writes : Writes} → r ≡ LeafPlan.Moves q writes → WritesFit writes
-  plan-fit e = subst PlanFit e h.fit
-
-  pub plan-refused : {code : ℕ} → r ≡ LeafPlan.Refused code → t ≡ refused code
-  unfolding plan_shown
-  plan-refused e = sym h.shown ∙ ap (plan_shown memory) e
 
 -- ---- where the process then stands
 abbrev pub Stands : Place → Type 0

@@ -1,3 +1,3 @@
 -- What the contracts of this crate cite beside rules.
-pub mod Shown
+pub mod Moved
 pub mod Side

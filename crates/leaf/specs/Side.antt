@@ -6,7 +6,7 @@ use Rattle.rules.specs.declared.Instruction.{Instruction}
 use Rattle.rules.specs.declared.Place.{Place}
 use Rattle.laws.specs.Fit.{EntryFit, ExitFit}
 use Rattle.leaf.specs.declared.place.Side.{Side}
-use Rattle.leaf.specs.Shown.{moved_to}
+use Rattle.leaf.specs.Moved.{moved_to}
 
 abbrev pub SideFit : Side → Type 0
 SideFit (Side.Entry e) = EntryFit e

@@ -4,8 +4,3 @@
 
 pub mod place;
 pub mod plan;
-
-// Where the memory begins among a machine's words, and where it ends.
-const MEMORY: usize = 2;
-
-const ROWS: usize = 290;
