@@ -2,24 +2,26 @@
 use Prim.Native.Nat.{ℕ, ◌+◌, ◌*◌, ◌<◌, ◌≤◌}
 use native.Mathlib.Nat.{add-zero, zero-add, add_assoc}
 use native.Mathlib.Omega.{arith}
-use mathlib.Core.Path.{◌≡◌, refl, sym, ap, subst, fun_ext, ◌∙◌}
-use mathlib.Core.Bool.{Bool, true, false, not, ◌&&◌, and-false}
+use mathlib.Core.Path.{◌≡◌, refl, sym, ap, ap₂, fun_ext, ◌∙◌}
+use mathlib.Core.Bool.{Bool, true, false, not, ◌&&◌, and_assoc}
 use mathlib.Core.List.{List, [], ◌∷◌, ◌++◌}
-use lib.ListN.{length, take, get_or, set, length-set, replicate, length-take}
+use lib.ListN.{length, take, get_or, set, length-set, replicate}
 use lib.Seq.{get_or-set_same, get_or-set_other}
 use lib.Dec.{eqb}
 use borrow.Author.Tests.{eqb-true, eqb-false}
+use Rattle.std.specs.List.{list_all}
+use Rattle.std.proofs.lemmas.List.{take_more}
+use Rattle.std.proofs.lemmas.List.Folds.{list_all-append}
 use Rattle.rules.specs.Base.{pick, times, each_of}
 use Rattle.rules.specs.Labels.{entry_labels, exit_labels, begin_labels, end_labels, ordinary_labels, count, ordinary, outer, bad10}
 use Rattle.rules.specs.declared.Block.{Block}
-use Rattle.laws.proofs.Lists.{each_append}
+use Rattle.rules.specs.declared.Entry.{Entry}
+use Rattle.rules.specs.declared.Exit.{Exit}
 use Rattle.laws.proofs.Times.{times-append}
-use Rattle.short.specs.declared.Few.{Few}
-use Rattle.labels.specs.declared.Counts.{Counts}
-use Rattle.short.specs.Few.{few, Lists}
+use Rattle.labels.specs.declared.counts.Counts.{Counts}
 use Rattle.short.specs.Low.{most, Low}
-use Rattle.labels.specs.Counts.{Raised, Counted, CountsOf, once_at, bad_by}
-use Rattle.short.proofs.Programs.{blank, pick-le, get_or-same, take_more}
+use Rattle.labels.specs.Counts.{Raised, Counted, CountsOf, ordinary_in, outer_in, bad_by}
+use Rattle.short.proofs.Programs.{each_of-all, pick-le, get_or-same}
 
 -- ---- how often a label stands in a list
 pub times-le : (x : ℕ) (l : List ℕ) → times x l ≤ length l
@@ -46,9 +48,10 @@ raised_at b y x h = go (eqb y x) refl
     go true e = rw (e, ← eqb-true y x e) (get_or-set_same b y (get_or b y 0 + 1) 0 h)
     go false e = rw e (get_or-set_other b y x (get_or b y 0 + 1) 0 (λ q. eqb-false y x e (sym q)) ∙ sym (add-zero (get_or b x 0)))
 
-pub raised-more : (a l b : List ℕ) (k y : ℕ) → k < length l → y ≡ get_or l k 0 → y < length a → Raised a (take k l) b
-    → Raised a (take (k + 1) l) (set b y (get_or b y 0 + 1))
-raised-more a l b k y h q s r =
+pub raised-more : (a l b : List ℕ) (k : ℕ) → k < length l → get_or l k 0 < length a → Raised a (take k l) b
+    → Raised a (take (k + 1) l) (set b (get_or l k 0) (get_or b (get_or l k 0) 0 + 1))
+raised-more a l b k h s r =
+    let y = get_or l k 0 in
     let t : length b ≡ length a = r.size in
     record {
       size = length-set b y (get_or b y 0 + 1) ∙ r.size;
@@ -56,14 +59,11 @@ raised-more a l b k y h q s r =
           λ x.
           raised_at b y x (omega arith) ∙ ap (λ (m : ℕ). m + pick (eqb y x) 1 0) (r.each x)
           ∙ add_assoc (get_or a x 0) (times x (take k l)) (pick (eqb y x) 1 0)
-          ∙ ap (λ (m : ℕ). get_or a x 0 + m) (rw q (sym (times_more x l k h)));
+          ∙ ap (λ (m : ℕ). get_or a x 0 + m) (sym (times_more x l k h));
     }
 
-pub raised-low : (a l b : List ℕ) (m j : ℕ) → Low m a → Raised a l b → length l ≤ j → Low (m + j) b
-raised-low a l b m j low r h x = omega (arith, low x, r.each x, times-le x l)
-
-pub few-le : (f : Few) → f.count ≤ 8 → length (few f) ≤ 8
-few-le f h = rw (length-take f.count f.labels) (omega arith)
+pub raised-low : (a l b : List ℕ) (m j x : ℕ) → Low m a → Raised a l b → length l ≤ j → get_or b x 0 ≤ m + j
+raised-low a l b m j x low r h = omega (arith, low x, r.each x, times-le x l)
 
 -- ---- the counts of a program, block by block
 count-append : (stands : Block → List ℕ) (p q : List Block) (x : ℕ) → count stands (p ++ q) x ≡ count stands p x + count stands q x
@@ -71,94 +71,71 @@ unfolding count
 count-append stands [] q x = sym (zero-add (count stands q x))
 count-append stands (b ∷ p) q x = rw (count-append stands p q x) (sym (add_assoc (times x (stands b)) (count stands p x) (count stands q x)))
 
--- the counts of the first i blocks, of which none has over eight labels
-pub record Counting (stands : Block → List ℕ) (blocks : List Block) (i : ℕ) (a : List ℕ) : Type 0 where
-  pub counted : Counted stands (take i blocks) a
-  pub low : Low (8 * i) a
+pub counted-none : (stands : Block → List ℕ) → Counted stands [] (replicate 256 0)
+unfolding count
+counted-none stands = record { size = refl; each = λ x. get_or-same 256 x 0 }
 
-module _ (stands : Block → List ℕ) (blocks : List Block) where
-  count-more : (i x : ℕ) → i < length blocks → count stands (take (i + 1) blocks) x ≡ count stands (take i blocks) x + times x (stands (get_or blocks i blank))
+module _ (stands : Block → List ℕ) (program : List Block) where
+  pub counted-more : (b : Block) (a l c : List ℕ) → Counted stands program a → l ≡ stands b → Raised a l c → Counted stands (program ++ b ∷ []) c
   unfolding count
-  count-more i x h =
-      rw (take_more blocks i blank h)
-      (count-append stands (take i blocks) (get_or blocks i blank ∷ []) x ∙ ap (λ (m : ℕ). count stands (take i blocks) x + m) (add-zero (times x (stands (get_or blocks i blank)))))
-
-  pub counting_none : Counting stands blocks 0 (replicate 256 0)
-  unfolding count
-  counting_none = record { counted = record { size = refl; each = λ x. get_or-same 256 x 0 }; low = λ x. omega (arith, get_or-same {A = ℕ} 256 x 0) }
-
-  pub counting_more : (i : ℕ) (a b : List ℕ) (f : Few) → i < length blocks → Counting stands blocks i a → Lists f (stands (get_or blocks i blank))
-      → Raised a (few f) b → Counting stands blocks (i + 1) b
-  counting_more i a b f h c l r =
+  counted-more b a l c h e r =
       record {
-        counted =
-            record {
-              size = r.size ∙ c.counted.size;
-              each =
-                  λ x.
-                  r.each x ∙ ap (λ (m : ℕ). m + times x (few f)) (c.counted.each x)
-                  ∙ ap (λ (m : List ℕ). count stands (take i blocks) x + times x m) l.same
-                  ∙ sym (count-more i x h);
-            };
-        low = λ x. omega (arith, raised-low a (few f) b (8 * i) 8 c.low r (few-le f l.small) x);
+        size = r.size ∙ h.size;
+        each =
+            λ x.
+            r.each x ∙ ap (λ (m : ℕ). m + times x l) (h.each x) ∙ ap (λ (m : List ℕ). count stands program x + times x m) e
+            ∙ sym (count-append stands program (b ∷ []) x ∙ ap (λ (m : ℕ). count stands program x + m) (add-zero (times x (stands b))));
       }
 
-  pub counting_room : (i : ℕ) (a : List ℕ) → Counting stands blocks i a → i ≤ 128 → Low most a
-  counting_room i a c h x = omega (arith, c.low x)
+-- a block stands in at most eight labels of a kind, so the counts stay low
+module _ (stands : Block → List ℕ) (short : (b : Block) → length (stands b) ≤ 8) where
+  count-le : (program : List Block) (x : ℕ) → count stands program x ≤ 8 * length program
+  unfolding count
+  count-le [] x = omega arith
+  count-le (b ∷ program) x = omega (arith, count-le program x, times-le x (stands b), short b)
 
-  pub counting_all : (i n : ℕ) (a : List ℕ) → i ≡ n → Counting stands blocks i a → Counted stands (take n blocks) a
-  counting_all i n a e c = subst (λ (k : ℕ). Counted stands (take k blocks) a) e c.counted
+  pub counted-room :
+      (program : List Block) (a l : List ℕ) (b : Block) → length program < 128 → Counted stands program a → l ≡ stands b → Low most a × (length l ≤ most)
+  counted-room program a l b few h e = (λ x. omega (arith, h.each x, count-le program x), omega (arith, ap length e, short b))
+
+pub entry-short : (e : Entry) → length (entry_labels e) ≤ 8
+entry-short (Entry.From l) = omega arith
+entry-short (Entry.Either l m e) = omega arith
+entry-short (Entry.Begin l) = omega arith
+
+pub exit-short : (e : Exit) → length (exit_labels e) ≤ 8
+exit-short (Exit.To l) = omega arith
+exit-short (Exit.Either e l m) = omega arith
+exit-short (Exit.End l) = omega arith
+
+pub begin-short : (e : Entry) → length (begin_labels e) ≤ 8
+begin-short (Entry.From l) = omega arith
+begin-short (Entry.Either l m e) = omega arith
+begin-short (Entry.Begin l) = omega arith
+
+pub end-short : (e : Exit) → length (end_labels e) ≤ 8
+end-short (Exit.To l) = omega arith
+end-short (Exit.Either e l m) = omega arith
+end-short (Exit.End l) = omega arith
 
 -- ---- code 10
-pub once-at : (a b c d : List ℕ) (l x : ℕ) (r : Bool) → l ≡ x → r ≡ once_at a b c d l → r ≡ once_at a b c d x
-once-at a b c d l x r h e = e ∙ ap (once_at a b c d) h
+parts : (p : ℕ → Bool) (l m : List ℕ) → each_of p (l ++ m) ≡ list_all p l && list_all p m
+parts p l m = each_of-all p (l ++ m) ∙ list_all-append p l m
 
-pub all_of : (p : ℕ → Bool) (f : Few) (l : List ℕ) (r v : Bool) → Lists f l → r ≡ each_of p (few f) → r ≡ v → each_of p l ≡ v
-all_of p f l r v h e q = ap (each_of p) (sym h.same) ∙ sym e ∙ q
-
-module _ (entries exits begins ends : List ℕ) (b : Block) where
-  -- the four parts of a block
-  parted : bad_by entries exits begins ends b
-      ≡ not
-      ((each_of (once_at entries exits begins ends) (entry_labels b.entry) && each_of (once_at entries exits begins ends) (exit_labels b.exit))
-      && (each_of (once_at begins ends entries exits) (begin_labels b.entry) && each_of (once_at begins ends entries exits) (end_labels b.exit)))
-  unfolding bad_by
-  parted =
-      rw (
-        each_append (once_at entries exits begins ends) (entry_labels b.entry) (exit_labels b.exit),
-        each_append (once_at begins ends entries exits) (begin_labels b.entry) (end_labels b.exit),
-      )
-
-  pub bad-entry : each_of (once_at entries exits begins ends) (entry_labels b.entry) ≡ false → true ≡ bad_by entries exits begins ends b
-  bad-entry e = rw (parted, e)
-
-  pub bad-exit : each_of (once_at entries exits begins ends) (exit_labels b.exit) ≡ false → true ≡ bad_by entries exits begins ends b
-  bad-exit e = rw (parted, e) (simp and-false)
-
-  pub bad-begin : each_of (once_at begins ends entries exits) (begin_labels b.entry) ≡ false → true ≡ bad_by entries exits begins ends b
-  bad-begin e = rw (parted, e) (simp and-false)
-
-  pub bad-end : (r : Bool) → each_of (once_at entries exits begins ends) (entry_labels b.entry) ≡ true
-      → each_of (once_at entries exits begins ends) (exit_labels b.exit) ≡ true → each_of (once_at begins ends entries exits) (begin_labels b.entry) ≡ true
-      → each_of (once_at begins ends entries exits) (end_labels b.exit) ≡ r → not r ≡ bad_by entries exits begins ends b
-  bad-end r e f g h = rw (parted, e, f, g, h)
-
-read_off : (program : List Block) (c : Counts) (b : Block) → CountsOf program c → bad_by c.entries c.exits c.begins c.ends b ≡ bad10 program b
-unfolding bad_by bad10 ordinary outer
-read_off program c b h =
-    ap (λ (p : ℕ → Bool). not (each_of p (ordinary_labels b) && each_of (once_at c.begins c.ends c.entries c.exits) outer_labels))
-    (fun_ext inner)
-    ∙ ap (λ (p : ℕ → Bool). not (each_of (ordinary program) (ordinary_labels b) && each_of p outer_labels)) (fun_ext around)
+pub bad10-read : (program : List Block) (c : Counts) → CountsOf program c → (b : Block) → bad10 program b ≡ bad_by c b
+unfolding bad10 ordinary outer
+bad10-read program c h b =
+    ap (λ (p : ℕ → Bool). not (each_of p (ordinary_labels b) && each_of (outer program) outer_labels)) (fun_ext inner)
+    ∙ ap (λ (p : ℕ → Bool). not (each_of (ordinary_in c) (ordinary_labels b) && each_of p outer_labels)) (fun_ext around)
+    ∙ ap₂ (λ (p q : Bool). not (p && q)) (parts (ordinary_in c) (entry_labels b.entry) (exit_labels b.exit))
+    (parts (outer_in c) (begin_labels b.entry) (end_labels b.exit))
+    ∙ ap not (and_assoc (list_all (ordinary_in c) (entry_labels b.entry)) (list_all (ordinary_in c) (exit_labels b.exit)) _)
   where
     outer_labels : List ℕ
     outer_labels = begin_labels b.entry ++ end_labels b.exit
 
-    inner : (l : ℕ) → once_at c.entries c.exits c.begins c.ends l ≡ ordinary program l
-    inner l = rw (h.entries.each l, h.exits.each l, h.begins.each l, h.ends.each l)
+    inner : (l : ℕ) → ordinary program l ≡ ordinary_in c l
+    inner l = rw (h.entries.each l, h.exits.each l, h.begins.each l, h.ends.each l) refl
 
-    around : (l : ℕ) → once_at c.begins c.ends c.entries c.exits l ≡ outer program l
-    around l = rw (h.begins.each l, h.ends.each l, h.entries.each l, h.exits.each l)
-
-pub bad10-is : (program : List Block) (c : Counts) (b : Block) (r v : Bool) → CountsOf program c → r ≡ bad_by c.entries c.exits c.begins c.ends b
-    → r ≡ v → bad10 program b ≡ v
-bad10-is program c b r v h e q = sym (read_off program c b h) ∙ sym e ∙ q
+    around : (l : ℕ) → outer program l ≡ outer_in c l
+    around l = rw (h.begins.each l, h.ends.each l, h.entries.each l, h.exits.each l) refl

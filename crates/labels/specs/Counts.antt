@@ -1,10 +1,12 @@
 -- Tables of counts, one for each label, and code 10 read off them.
-use Rattle.std.specs.Prelude.{ℕ, ◌+◌, ◌≡◌, Bool, not, ◌&&◌, List, ◌++◌, length, get_or, eqb}
-use Rattle.rules.specs.Base.{times, each_of, lowest}
+use Rattle.std.specs.Prelude.{ℕ, ◌+◌, ◌≡◌, Bool, not, ◌&&◌, List, length, get_or, eqb}
+use Rattle.rules.specs.Base.{times}
 use Rattle.rules.specs.Format.{labels}
 use Rattle.rules.specs.Labels.{entry_labels, exit_labels, begin_labels, end_labels, count, block_of, bad10}
 use Rattle.rules.specs.declared.Block.{Block}
-use Rattle.labels.specs.declared.Counts.{Counts}
+use Rattle.std.specs.List.{list_all}
+use Rattle.laws.specs.Found.{found}
+use Rattle.labels.specs.declared.counts.Counts.{Counts}
 use Rattle.labels.specs.declared.Labelled.{Labelled}
 
 -- each of the labels is counted besides
@@ -23,29 +25,25 @@ pub record CountsOf (program : List Block) (c : Counts) : Type 0 where
   pub begins : Counted (λ b. begin_labels b.entry) program c.begins
   pub ends : Counted (λ b. end_labels b.exit) program c.ends
 
--- four tables as one
-abbrev pub counts_in : List ℕ → List ℕ → List ℕ → List ℕ → Counts
-counts_in entries exits begins ends = record { entries = entries; exits = exits; begins = begins; ends = ends }
-
 -- the begins alone
 abbrev pub BeginsOf : List Block → List ℕ → Type 0
 BeginsOf program a = Counted (λ b. begin_labels b.entry) program a
 
--- one of each of the first two, and none of the others; of label l
-abbrev pub once : ℕ → ℕ → ℕ → ℕ → Bool
-once a b c d = eqb a 1 && (eqb b 1 && (eqb c 0 && eqb d 0))
+-- label l stands in one entry and one exit, and not otherwise; in one begin and one end, and not otherwise
+abbrev pub ordinary_in : Counts → ℕ → Bool
+ordinary_in c l = eqb (get_or c.entries l 0) 1 && (eqb (get_or c.exits l 0) 1 && (eqb (get_or c.begins l 0) 0 && eqb (get_or c.ends l 0) 0))
 
-abbrev pub once_at : List ℕ → List ℕ → List ℕ → List ℕ → ℕ → Bool
-once_at a b c d l = once (get_or a l 0) (get_or b l 0) (get_or c l 0) (get_or d l 0)
+abbrev pub outer_in : Counts → ℕ → Bool
+outer_in c l = eqb (get_or c.begins l 0) 1 && (eqb (get_or c.ends l 0) 1 && (eqb (get_or c.entries l 0) 0 && eqb (get_or c.exits l 0) 0))
 
 -- a label of the block does not stand as it must
-unfoldable pub bad_by : List ℕ → List ℕ → List ℕ → List ℕ → Block → Bool
-bad_by entries exits begins ends b =
+abbrev pub bad_by : Counts → Block → Bool
+bad_by c b =
     not
-    (each_of (once_at entries exits begins ends) (entry_labels b.entry ++ exit_labels b.exit)
-    && each_of (once_at begins ends entries exits) (begin_labels b.entry ++ end_labels b.exit))
+    (list_all (ordinary_in c) (entry_labels b.entry)
+    && (list_all (ordinary_in c) (exit_labels b.exit) && (list_all (outer_in c) (begin_labels b.entry) && list_all (outer_in c) (end_labels b.exit))))
 
 -- what code 10 finds, and the begins that codes 12 and 13 want
-pub record LabelledOf (program : List Block) (n : ℕ) (r : Labelled) : Type 0 where
-  pub bad : r.bad ≡ lowest (λ b. bad10 program (block_of program b)) n
+pub record LabelledOf (program : List Block) (r : Labelled) : Type 0 where
+  pub bad : r.bad ≡ found (λ b. bad10 program (block_of program b)) (length program)
   pub begins : BeginsOf program r.begins
