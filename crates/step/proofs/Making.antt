@@ -2,6 +2,7 @@
 use mathlib.Core.Path.{◌≡◌, sym, ap, ◌∙◌, subst}
 use mathlib.Core.Bool.{true, false, not}
 use mathlib.Core.List.{List}
+use Rattle.std.specs.Prelude.{Result, Ok, Err}
 use Prim.Native.Nat.{ℕ, ◌+◌, ◌≤◌, ◌<◌}
 use native.Mathlib.Omega.{arith}
 use lib.ListN.{length, take}
@@ -12,17 +13,17 @@ use Rattle.rules.specs.Labels.{block_of, called_by, called}
 use Rattle.rules.specs.Machine.{Machine, begin, end, child, is_child_of, children, live_count, history_count, view}
 use Rattle.rules.specs.Leaf.{Tried, made, refused, after, entry_place, exit_place, Moved}
 use Rattle.rules.specs.Step.{crowded, move_row, insert_rows, remove_rows, child_rows, keep, close_up, fork, undo_fork, merge, undo_merge, leaf_step, undo_leaf}
+use Rattle.rules.specs.Codes.{number}
 use Rattle.rules.specs.declared.Block.{Block}
+use Rattle.rules.specs.declared.Code.{Code}
 use Rattle.rules.specs.declared.Instruction.{Instruction}
 use Rattle.rules.specs.declared.Names.{Names}
 use Rattle.rules.specs.declared.Place.{Place}
 use Rattle.evaluate.specs.Shown.{written, WritesFit}
 use Rattle.evaluate.specs.declared.Writes.{Writes}
-use Rattle.leaf.specs.Shown as LeafShown
-use Rattle.leaf.specs.Shown.{moved_to, plan_shown}
-use Rattle.leaf.specs.declared.plan.LeafPlan.{LeafPlan}
+use Rattle.leaf.specs.Moved.{moved_to}
 use Rattle.laws.proofs.View.{length-rows, length-history}
-use Rattle.step.specs.Planned.{identifier_at, planned}
+use Rattle.step.specs.Planned.{identifier_at}
 use Rattle.step.specs.Ready.{process_at, Ready, Plans, FirstFrom}
 use Rattle.step.specs.History.{NewestAt}
 use Rattle.step.specs.declared.plan.Plan.{Plan}
@@ -33,11 +34,10 @@ use Rattle.step.proofs.First.{first-parted, none_before, children-within}
 use Rattle.step.proofs.Steps.{leaf-is, fork-is, merge-is, undo-leaf_is, undo-merge_is, undo-fork_is}
 
 -- a refusal is fit for any machine
-pub refuses : {w : List ℕ} {code : ℕ} {tried : Tried Machine} → refused code ≡ tried → Plans w (Plan.Refused code) tried
-unfolding planned
+pub refuses : {w : List ℕ} {code : Code} {tried : Tried Machine} → refused (number code) ≡ tried → Plans w (Err code) tried
 refuses e = record { shown = e; fit = tt }
 
-pub plans_at : {w : List ℕ} {plan : Plan} {t u : Tried Machine} → t ≡ u → Plans w plan t → Plans w plan u
+pub plans_at : {w : List ℕ} {plan : Result Plan Code} {t u : Tried Machine} → t ≡ u → Plans w plan t → Plans w plan u
 plans_at e h = record { shown = h.shown ∙ e; fit = h.fit }
 
 -- a call's labels
@@ -114,7 +114,7 @@ module _ (w : List ℕ) (row : ℕ) (r : Ready w row) where
 
   -- ---- a leaf
   pub makes-leaf : (q : Place) (writes : Writes) (b : ℕ) (tried : Tried Moved) → made (moved_to q (written writes m.memory)) ≡ tried
-      → WritesFit writes → history_count w < 4096 → Plans w (Plan.Leaf row q writes b) (leaf_step m p b tried)
+      → WritesFit writes → history_count w < 4096 → Plans w (Ok (Plan.Leaf row q writes b)) (leaf_step m p b tried)
   makes-leaf q writes b tried e f h =
       record {
         shown =
@@ -125,7 +125,7 @@ module _ (w : List ℕ) (row : ℕ) (r : Ready w row) where
       }
 
   pub makes-undo_leaf : (q : Place) (writes : Writes) (entry : ℕ) (tried : Tried Moved) → made (moved_to q (written writes m.memory)) ≡ tried
-      → WritesFit writes → NewestAt m.history p entry → Plans w (Plan.UndoLeaf row q writes entry) (undo_leaf m p tried)
+      → WritesFit writes → NewestAt m.history p entry → Plans w (Ok (Plan.UndoLeaf row q writes entry)) (undo_leaf m p tried)
   makes-undo_leaf q writes entry tried e f n =
       record {
         shown =
@@ -135,53 +135,27 @@ module _ (w : List ℕ) (row : ℕ) (r : Ready w row) where
         fit = record { live = live; within = f; there = n.there };
       }
 
-  -- as a leaf's plan says
-  module _ (plan : LeafPlan) (tried : Tried Moved) (l : LeafShown.Plans m.memory plan tried) where
-    pub plans_leaf : (b : ℕ) {q : Place} {writes : Writes} → plan ≡ LeafPlan.Moves q writes → history_count w < 4096
-        → Plans w (Plan.Leaf row q writes b) (leaf_step m p b tried)
-    unfolding plan_shown
-    plans_leaf b {q} {writes} e h =
-        makes-leaf q writes b tried (sym (ap (plan_shown m.memory) e) ∙ l.shown) (subst LeafShown.PlanFit e l.fit) h
-
-    pub plans_undo_leaf : {q : Place} {writes : Writes} {entry : ℕ} → plan ≡ LeafPlan.Moves q writes → NewestAt m.history p entry
-        → Plans w (Plan.UndoLeaf row q writes entry) (undo_leaf m p tried)
-    unfolding plan_shown
-    plans_undo_leaf {q} {writes} {entry} e n =
-        makes-undo_leaf q writes entry tried (sym (ap (plan_shown m.memory) e) ∙ l.shown) (subst LeafShown.PlanFit e l.fit) n
-
-    refused-leaf : {code : ℕ} → plan ≡ LeafPlan.Refused code → refused code ≡ tried
-    unfolding plan_shown
-    refused-leaf e = sym (ap (plan_shown m.memory) e) ∙ l.shown
-
-    pub refuses-leaf : (b : ℕ) {code : ℕ} → plan ≡ LeafPlan.Refused code → Plans w (Plan.Refused code) (leaf_step m p b tried)
-    unfolding leaf_step after
-    refuses-leaf b e = refuses (ap (λ (t : Tried Moved). leaf_step m p b t) (refused-leaf e))
-
-    pub refuses-undo_leaf : {code : ℕ} → plan ≡ LeafPlan.Refused code → Plans w (Plan.Refused code) (undo_leaf m p tried)
-    unfolding undo_leaf after
-    refuses-undo_leaf e = refuses (ap (λ (t : Tried Moved). undo_leaf m p t) (refused-leaf e))
-
   -- ---- children put in
-  module _ (program : List Block) (b : ℕ) (names : Names) (c : (block_of program b).instruction ≡ Instruction.Call names) (few : names.count ≤ 8) where
+  module _ (program : List Block) (b : ℕ) (names : Names) (c : (block_of program b).instruction ≡ Instruction.Call names) (few : names.count ≤ 8) (eight : length names.labels ≡ 8) where
     counted : live_count w + names.count ≡ length m.rows + length (named names)
-    counted = omega (arith, length-rows w, named_count names few)
+    counted = omega (arith, length-rows w, named_count names few eight)
 
-    pub refuses-fork : 64 < live_count w + names.count → Plans w (Plan.Refused 28) (fork program m p b)
+    pub refuses-fork : 64 < live_count w + names.count → Plans w (Err Code.NoRoom) (fork program m p b)
     refuses-fork h = refuses (crowded-fork program m p b names c (omega (arith, counted, h)))
 
-    pub refuses-merge : 64 < live_count w + names.count → Plans w (Plan.Refused 28) (undo_merge program m p b)
+    pub refuses-merge : 64 < live_count w + names.count → Plans w (Err Code.NoRoom) (undo_merge program m p b)
     refuses-merge h = refuses (crowded-merge program m p b names c (omega (arith, counted, h)))
 
     module _ (room : live_count w + names.count ≤ 64) where
       rooms : length m.rows + length (named names) ≤ 64
       rooms = omega (arith, counted, room)
 
-      pub refuses-outside : {code : ℕ} → refused code ≡ exit_place m.memory (block_of program b).exit → Plans w (Plan.Refused code) (fork program m p b)
+      pub refuses-outside : {code : Code} → refused (number code) ≡ exit_place m.memory (block_of program b).exit → Plans w (Err code) (fork program m p b)
       refuses-outside e = refuses (outside-fork program m p b names c rooms (sym e))
 
       module _ (shallow : p < 268435456) (first : ℕ) (f : FirstFrom w (child p 1) first) where
         pub makes-fork : (q : Place) → made q ≡ exit_place m.memory (block_of program b).exit → history_count w < 4096
-            → Plans w (Plan.Fork row q names b first) (fork program m p b)
+            → Plans w (Ok (Plan.Fork row q names b first)) (fork program m p b)
         makes-fork q e h =
             record {
               shown =
@@ -206,7 +180,7 @@ module _ (w : List ℕ) (row : ℕ) (r : Ready w row) where
               };
             }
 
-        pub makes-undo_merge : (entry : ℕ) → NewestAt m.history p entry → Plans w (Plan.UndoMerge row names first entry) (undo_merge program m p b)
+        pub makes-undo_merge : (entry : ℕ) → NewestAt m.history p entry → Plans w (Ok (Plan.UndoMerge row names first entry)) (undo_merge program m p b)
         makes-undo_merge entry n =
             record {
               shown =
@@ -236,7 +210,7 @@ module _ (w : List ℕ) (row : ℕ) (r : Ready w row) where
         let z = children-within p m.rows first (omega (arith, length-rows w, f.within)) (none-at first f) in
         omega (arith, z, e)
 
-    pub makes-merge : (b : ℕ) → history_count w < 4096 → Plans w (Plan.Merge row b first count) (merge m p b)
+    pub makes-merge : (b : ℕ) → history_count w < 4096 → Plans w (Ok (Plan.Merge row b first count)) (merge m p b)
     makes-merge b h =
         record {
           shown =
@@ -246,7 +220,7 @@ module _ (w : List ℕ) (row : ℕ) (r : Ready w row) where
         }
 
     pub makes-undo_fork : (program : List Block) (b : ℕ) (q : Place) (entry : ℕ) → made q ≡ entry_place m.memory (block_of program b).entry
-        → NewestAt m.history p entry → Plans w (Plan.UndoFork row q first count entry) (undo_fork program m p b)
+        → NewestAt m.history p entry → Plans w (Ok (Plan.UndoFork row q first count entry)) (undo_fork program m p b)
     makes-undo_fork program b q entry g n =
         record {
           shown =
@@ -258,7 +232,6 @@ module _ (w : List ℕ) (row : ℕ) (r : Ready w row) where
           fit = record { live = live; at = fits_out; there = n.there };
         }
 
-  pub refuses-undo_fork : (program : List Block) (b : ℕ) {code : ℕ} → refused code ≡ entry_place m.memory (block_of program b).entry
-      → Plans w (Plan.Refused code) (undo_fork program m p b)
+  pub refuses-undo_fork : (program : List Block) (b : ℕ) {code : Code} → refused (number code) ≡ entry_place m.memory (block_of program b).entry → Plans w (Err code) (undo_fork program m p b)
   unfolding undo_fork after
   refuses-undo_fork program b e = refuses (rw (← e))

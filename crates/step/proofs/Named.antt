@@ -7,12 +7,12 @@ use lib.Seq.{length-take-le}
 use Rattle.rules.specs.Format.{named}
 use Rattle.rules.specs.Step.{child_rows}
 use Rattle.rules.specs.declared.Names.{Names}
-use Rattle.step.specs.Planned.{eight}
+use native.Mathlib.Omega.{arith}
 
 pub length-children : (p stage i : ℕ) (ls : List ℕ) → length (child_rows p stage i ls) ≡ length ls
 unfolding child_rows
 length-children p stage i [] = refl
 length-children p stage i (l ∷ ls) = ap suc (length-children p stage (suc i) ls)
 
-pub named_count : (n : Names) → n.count ≤ 8 → length (named n) ≡ n.count
-named_count n h = length-take-le n.count (eight n) h
+pub named_count : (n : Names) → n.count ≤ 8 → length n.labels ≡ 8 → length (named n) ≡ n.count
+named_count n h e = length-take-le n.count n.labels (omega arith)

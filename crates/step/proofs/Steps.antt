@@ -118,7 +118,7 @@ same-order (r ∷ q ∷ rows) (suc (suc j)) l s = ap (λ (b : Bool). ltb r.ident
 
 module _ (m : Machine) (row : ℕ) (a : ascending m.rows ≡ true) (h : row < length m.rows) where
   pub leaf-is : (q : Place) (writes : Writes) (block : ℕ)
-      → planned (Plan.Leaf row q writes block) m
+      → made (planned (Plan.Leaf row q writes block) m)
       ≡ leaf_step m (identifier_at m row) block (made (record { stands = q; memory = written writes m.memory }))
   unfolding planned leaf_made leaf_step after kept moved written_in keep
   leaf-is q writes block =
@@ -126,7 +126,7 @@ module _ (m : Machine) (row : ℕ) (a : ascending m.rows ≡ true) (h : row < le
       (moved_by m.rows row q.label q.stage a h)
 
   pub undo-leaf_is : (q : Place) (writes : Writes) (entry : ℕ) → NewestAt m.history (identifier_at m row) entry
-      → planned (Plan.UndoLeaf row q writes entry) m
+      → made (planned (Plan.UndoLeaf row q writes entry) m)
       ≡ undo_leaf m (identifier_at m row) (made (record { stands = q; memory = written writes m.memory }))
   unfolding planned undo_leaf_made undo_leaf after without moved written_in
   undo-leaf_is q writes entry n =
@@ -135,7 +135,7 @@ module _ (m : Machine) (row : ℕ) (a : ascending m.rows ≡ true) (h : row < le
       (closed-by m.history (identifier_at m row) entry n.there n.own n.last)
 
   pub fork-is : (q : Place) (names : Names) (block first : ℕ) → Parted m.rows (child (identifier_at m row) 1) first
-      → planned (Plan.Fork row q names block first) m
+      → made (planned (Plan.Fork row q names block first) m)
       ≡ made (machine m.memory
       (insert_rows (move_row m.rows (identifier_at m row) q) (identifier_at m row) (child_rows (identifier_at m row) begin 1 (named names)))
       (keep m.history (identifier_at m row) block))
@@ -150,7 +150,7 @@ module _ (m : Machine) (row : ℕ) (a : ascending m.rows ≡ true) (h : row < le
   pub merge-is : (block first count : ℕ) → Parted m.rows (child (identifier_at m row) 1) first
       → each_of (λ r. not (is_child_of (identifier_at m row) r.identifier)) (take first m.rows) ≡ true
       → count ≡ length (children m.rows (identifier_at m row))
-      → planned (Plan.Merge row block first count) m ≡ merge m (identifier_at m row) block
+      → made (planned (Plan.Merge row block first count) m) ≡ merge m (identifier_at m row) block
   unfolding planned merge_made kept removed merge keep
   merge-is block first count s n e =
       ap (λ (r : List Process). made (machine m.memory r (keep m.history (identifier_at m row) block)))
@@ -158,7 +158,7 @@ module _ (m : Machine) (row : ℕ) (a : ascending m.rows ≡ true) (h : row < le
 
   pub undo-merge_is : (names : Names) (first entry : ℕ) → Parted m.rows (child (identifier_at m row) 1) first
       → NewestAt m.history (identifier_at m row) entry
-      → planned (Plan.UndoMerge row names first entry) m
+      → made (planned (Plan.UndoMerge row names first entry) m)
       ≡ made (machine m.memory (insert_rows m.rows (identifier_at m row) (child_rows (identifier_at m row) end 1 (named names)))
       (close_up m.history (identifier_at m row)))
   unfolding planned undo_merge_made without inserted
@@ -171,7 +171,7 @@ module _ (m : Machine) (row : ℕ) (a : ascending m.rows ≡ true) (h : row < le
   pub undo-fork_is : (q : Place) (first count entry : ℕ) → Parted m.rows (child (identifier_at m row) 1) first
       → each_of (λ r. not (is_child_of (identifier_at m row) r.identifier)) (take first m.rows) ≡ true
       → count ≡ length (children m.rows (identifier_at m row)) → NewestAt m.history (identifier_at m row) entry
-      → planned (Plan.UndoFork row q first count entry) m
+      → made (planned (Plan.UndoFork row q first count entry) m)
       ≡ made (machine m.memory (move_row (remove_rows m.rows (identifier_at m row)) (identifier_at m row) q) (close_up m.history (identifier_at m row)))
   unfolding planned undo_fork_made without removed moved children
   undo-fork_is q first count entry s n e k =

@@ -1,5 +1,4 @@
 -- What the contracts of this crate cite beside rules.
 pub mod Planned
 pub mod Ready
-pub mod Called
 pub mod History

@@ -1,9 +1,8 @@
 -- What a plan makes of a machine, with rows and entries named by their place; and what a plan asks of the machine that it is for.
-use Rattle.std.specs.Prelude.{ℕ, ◌+◌, ◌<◌, ◌≤◌, ◌≡◌, true, List, [], ◌∷◌, length, get_or}
+use Rattle.std.specs.Prelude.{ℕ, ◌+◌, ◌<◌, ◌≤◌, ◌≡◌, true, List, length, get_or}
 use Rattle.rules.specs.Format.{named}
-use Rattle.rules.specs.Machine.{Machine, place, begin, end, pack}
+use Rattle.rules.specs.Machine.{Machine, place, begin, end}
 use Rattle.rules.specs.Fits.{counts_fit, unused_zero}
-use Rattle.rules.specs.Leaf.{Tried, made, refused}
 use Rattle.rules.specs.Step.{child_rows}
 use Rattle.rules.specs.declared.Names.{Names}
 use Rattle.rules.specs.declared.Place.{Place}
@@ -18,10 +17,6 @@ pub record Lent (w : List ℕ) : Type 0 where
   pub long : length w ≡ 8674
   pub counts : counts_fit w ≡ true
   pub unused : unused_zero w ≡ true
-
--- the eight places for a call's labels
-abbrev pub eight : Names → List ℕ
-eight n = n.first ∷ n.second ∷ n.third ∷ n.fourth ∷ n.fifth ∷ n.sixth ∷ n.seventh ∷ n.eighth ∷ []
 
 -- writes made in a machine's words, and in a machine
 unfoldable pub writes_made : Writes → List ℕ → List ℕ
@@ -56,19 +51,13 @@ undo_fork_made m row q first count entry = without (removed (moved m row q.label
 unfoldable pub undo_merge_made : Machine → ℕ → Names → ℕ → ℕ → Machine
 undo_merge_made m row names first entry = without (inserted m first (child_rows (identifier_at m row) end 1 (named names))) entry
 
-unfoldable pub planned : Plan → Machine → Tried Machine
-planned (Plan.Refused code) m = refused code
-planned (Plan.Leaf row q writes block) m = made (leaf_made m row q writes block)
-planned (Plan.Fork row q names block first) m = made (fork_made m row q names block first)
-planned (Plan.Merge row block first count) m = made (merge_made m row block first count)
-planned (Plan.UndoLeaf row q writes entry) m = made (undo_leaf_made m row q writes entry)
-planned (Plan.UndoFork row q first count entry) m = made (undo_fork_made m row q first count entry)
-planned (Plan.UndoMerge row names first entry) m = made (undo_merge_made m row names first entry)
-
--- the words that a try leaves: as they were where it is refused
-abbrev pub left : Tried Machine → List ℕ → List ℕ
-left (made m) w = pack m
-left (refused code) w = w
+unfoldable pub planned : Plan → Machine → Machine
+planned (Plan.Leaf row q writes block) m = leaf_made m row q writes block
+planned (Plan.Fork row q names block first) m = fork_made m row q names block first
+planned (Plan.Merge row block first count) m = merge_made m row block first count
+planned (Plan.UndoLeaf row q writes entry) m = undo_leaf_made m row q writes entry
+planned (Plan.UndoFork row q first count entry) m = undo_fork_made m row q first count entry
+planned (Plan.UndoMerge row names first entry) m = undo_merge_made m row names first entry
 
 -- ---- what a plan asks: rows, entries and writes that there are, and room
 pub record LeafFit (m : Machine) (row : ℕ) (writes : Writes) : Type 0 where
@@ -108,7 +97,6 @@ pub record UndoMergeFit (m : Machine) (row : ℕ) (names : Names) (first entry :
   pub there : entry < length m.history
 
 abbrev pub PlanFit : Plan → Machine → Type 0
-PlanFit (Plan.Refused code) m = Unit {0}
 PlanFit (Plan.Leaf row q writes block) m = LeafFit m row writes
 PlanFit (Plan.Fork row q names block first) m = ForkFit m row names first
 PlanFit (Plan.Merge row block first count) m = MergeFit m row first count

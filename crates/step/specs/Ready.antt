@@ -1,13 +1,15 @@
 -- A live process that a plan is for, and what a plan answers.
-use Rattle.std.specs.Prelude.{ℕ, ◌+◌, ◌*◌, ◌%◌, ◌<◌, ◌≤◌, ◌≡◌, true, ◌||◌, List, get_or, eqb, leb}
+use Rattle.std.specs.Prelude.{ℕ, ◌+◌, ◌*◌, ◌%◌, ◌<◌, ◌≤◌, ◌≡◌, true, ◌||◌, List, Result, IfOk, get_or, eqb, leb}
 use Rattle.rules.specs.Base.{each_of}
 use Rattle.rules.specs.Read.{is_call}
 use Rattle.rules.specs.Machine.{Machine, place, live_count, view}
 use Rattle.rules.specs.Fits.{ascending}
 use Rattle.rules.specs.Leaf.{Tried}
 use Rattle.rules.specs.declared.Block.{Block}
+use Rattle.rules.specs.declared.Code.{Code}
 use Rattle.rules.specs.declared.Place.{Place}
 use Rattle.laws.specs.Fit.{BlockFit}
+use Rattle.evaluate.specs.Shown.{tried_as}
 use Rattle.step.specs.Planned.{Lent, PlanFit, planned}
 use Rattle.step.specs.declared.plan.Plan.{Plan}
 
@@ -36,7 +38,7 @@ pub record Apt (w : List ℕ) (row : ℕ) (block : Block) : Type 0 where
   pub fit : BlockFit block
   pub shallow : is_call block.instruction ≡ true → process_at w row < 268435456
 
--- a plan that the words allow, and that makes what rules tries
-pub record Plans (w : List ℕ) (plan : Plan) (tried : Tried Machine) : Type 0 where
-  pub shown : planned plan (view w) ≡ tried
-  pub fit : PlanFit plan (view w)
+-- a plan that the words allow, and that makes what rules tries; or the code of its refusal
+pub record Plans (w : List ℕ) (plan : Result Plan Code) (tried : Tried Machine) : Type 0 where
+  pub shown : tried_as (λ p. planned p (view w)) plan ≡ tried
+  pub fit : IfOk plan (λ p. PlanFit p (view w))

@@ -1,24 +1,15 @@
-// Whether a block calls, and what.
-ghost use Rattle.step.specs.Called.{CallOf};
+// What a block calls, if it calls.
+ghost use Rattle.std.specs.Prelude.{◌≡◌, false, MatchOption};
+ghost use Rattle.rules.specs.Read.{is_call};
+ghost use Rattle.rules.specs.declared.Instruction.{Instruction};
 
 use rules::{Instruction, Names};
 
-#[derive(Clone, Copy)]
-pub enum Called {
-    Labels(Names),
-    Nothing,
-}
-
-pub fn call_of(i: Instruction) -> Called
-    ensures { CallOf i result }
+pub fn call_of(i: Instruction) -> Option<Names>
+    ensures { MatchOption result (is_call i ≡ false) (λ names. i ≡ Instruction.Call names) }
 {
     match i {
-        Instruction::Update(_, _, _) => Called::Nothing,
-        Instruction::Exchange(_, _) => Called::Nothing,
-        Instruction::OpV(_) => Called::Nothing,
-        Instruction::OpP(_) => Called::Nothing,
-        Instruction::Assert(_) => Called::Nothing,
-        Instruction::Skip => Called::Nothing,
-        Instruction::Call(names) => Called::Labels(names),
+        Instruction::Call(names) => Some(names),
+        _ => None,
     }
 }
