@@ -3,7 +3,7 @@ ghost use Rattle.std.specs.Prelude.{◌≡◌};
 ghost use Rattle.rules.specs.Names.{target_resource};
 ghost use Rattle.rules.specs.Read.{updates_itself, exchanges_itself};
 
-use crate::{HEAP, expression_names, target_names};
+use crate::{HEAP, Part};
 use rules::{Expression, Target};
 
 // What a target writes: its variable, or the whole heap as one.
@@ -21,7 +21,7 @@ fn target_resource(t: Target) -> u8
 pub fn updates_itself(t: Target, e: Expression) -> bool
     ensures { result ≡ updates_itself t e }
 {
-    expression_names(e, target_resource(t))
+    e.names(target_resource(t))
 }
 
 // An exchange whose second target names the first's variable.
@@ -30,7 +30,6 @@ pub fn exchanges_itself(a: Target, b: Target) -> bool
     ensures { result ≡ exchanges_itself a b }
 {
     match a {
-        Target::Variable(x) => target_names(b, x),
-        Target::Cell(x) => target_names(b, x),
+        Target::Variable(x) | Target::Cell(x) => b.names(x),
     }
 }

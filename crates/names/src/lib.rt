@@ -3,7 +3,7 @@
 
 pub mod itself;
 
-ghost use Rattle.std.specs.Prelude.{◌||◌, ◌≡◌, eqb};
+ghost use Rattle.std.specs.Prelude.{◌≡◌, ◌||◌, ℕ, Bool, eqb};
 ghost use Rattle.rules.specs.Names.{heap, operand_names, target_names, expression_names, entry_names, exit_names, other_names, block_names};
 
 use rules::{Block, Entry, Exit, Expression, Instruction, Operand, Target};
@@ -11,103 +11,89 @@ use rules::{Block, Entry, Exit, Expression, Instruction, Operand, Target};
 // The heap goes by the number after the last variable's.
 const HEAP: u8 = 32;
 
-// A constant names nothing, x names x, and M[x] names x and the heap.
-fn operand_names(a: Operand, x: u8) -> bool
-    ensures { result ≡ operand_names a x }
-{
-    match a {
-        Operand::Constant(_) => false,
-        Operand::Variable(y) => y == x,
-        Operand::Cell(y) => cell_names(y, x),
-    }
+// A part of a block, which may name a variable x, or the heap.
+trait Part: Copy {
+    ghost names: { Self → ℕ → Bool };
+
+    fn names(self, x: u8) -> bool
+        ensures { result ≡ names self x };
 }
 
+// M[y] names y and the heap.
 fn cell_names(y: u8, x: u8) -> bool
     ensures { result ≡ eqb y x || eqb heap x }
 {
-    if y == x {
-        return true;
-    }
-    HEAP == x
+    y == x || HEAP == x
 }
 
-fn target_names(a: Target, x: u8) -> bool
-    ensures { result ≡ target_names a x }
-{
-    match a {
-        Target::Variable(y) => y == x,
-        Target::Cell(y) => cell_names(y, x),
-    }
-}
+// A constant names nothing, x names x.
+impl Part for Operand {
+    ghost names = { operand_names };
 
-fn either_names(a: Operand, b: Operand, x: u8) -> bool
-    ensures { result ≡ operand_names a x || operand_names b x }
-{
-    if operand_names(a, x) {
-        return true;
-    }
-    operand_names(b, x)
-}
-
-fn expression_names(e: Expression, x: u8) -> bool
-    ensures { result ≡ expression_names e x }
-{
-    match e {
-        Expression::Plain(a) => operand_names(a, x),
-        Expression::Not(a) => operand_names(a, x),
-        Expression::Two(_, a, b) => either_names(a, b, x),
+    fn names(self, x: u8) -> bool {
+        match self {
+            Operand::Constant(_) => false,
+            Operand::Variable(y) => y == x,
+            Operand::Cell(y) => cell_names(y, x),
+        }
     }
 }
 
-fn entry_names(e: Entry, x: u8) -> bool
-    ensures { result ≡ entry_names e x }
-{
-    match e {
-        Entry::From(_) => false,
-        Entry::Either(_, _, e) => expression_names(e, x),
-        Entry::Begin(_) => false,
+impl Part for Target {
+    ghost names = { target_names };
+
+    fn names(self, x: u8) -> bool {
+        match self {
+            Target::Variable(y) => y == x,
+            Target::Cell(y) => cell_names(y, x),
+        }
     }
 }
 
-fn exit_names(e: Exit, x: u8) -> bool
-    ensures { result ≡ exit_names e x }
-{
-    match e {
-        Exit::To(_) => false,
-        Exit::Either(e, _, _) => expression_names(e, x),
-        Exit::End(_) => false,
+impl Part for Expression {
+    ghost names = { expression_names };
+
+    fn names(self, x: u8) -> bool {
+        match self {
+            Expression::Plain(a) | Expression::Not(a) => a.names(x),
+            Expression::Two(_, a, b) => a.names(x) || b.names(x),
+        }
     }
 }
 
-fn update_names(a: Target, e: Expression, x: u8) -> bool
-    ensures { result ≡ target_names a x || expression_names e x }
-{
-    if target_names(a, x) {
-        return true;
+impl Part for Entry {
+    ghost names = { entry_names };
+
+    fn names(self, x: u8) -> bool {
+        match self {
+            Entry::Either(_, _, e) => e.names(x),
+            _ => false,
+        }
     }
-    expression_names(e, x)
 }
 
-fn exchange_names(a: Target, b: Target, x: u8) -> bool
-    ensures { result ≡ target_names a x || target_names b x }
-{
-    if target_names(a, x) {
-        return true;
+impl Part for Exit {
+    ghost names = { exit_names };
+
+    fn names(self, x: u8) -> bool {
+        match self {
+            Exit::Either(e, _, _) => e.names(x),
+            _ => false,
+        }
     }
-    target_names(b, x)
 }
 
-fn instruction_names(i: Instruction, x: u8) -> bool
-    ensures { result ≡ other_names i x }
-{
-    match i {
-        Instruction::Update(_, a, e) => update_names(a, e, x),
-        Instruction::Exchange(a, b) => exchange_names(a, b, x),
-        Instruction::OpV(_) => false,
-        Instruction::OpP(_) => false,
-        Instruction::Assert(e) => expression_names(e, x),
-        Instruction::Skip => false,
-        Instruction::Call(_) => false,
+// V and P apart.
+impl Part for Instruction {
+    ghost names = { other_names };
+
+    fn names(self, x: u8) -> bool {
+        match self {
+            Instruction::Update(_, a, e) => a.names(x) || e.names(x),
+            Instruction::Exchange(a, b) => a.names(x) || b.names(x),
+            Instruction::Assert(e) => e.names(x),
+            _ => false,
+        }
     }
 }
 
@@ -116,14 +102,5 @@ fn instruction_names(i: Instruction, x: u8) -> bool
 pub fn block_names(b: Block, x: u8) -> bool
     ensures { result ≡ block_names b x }
 {
-    let entry = b.entry;
-    let instruction = b.instruction;
-    let exit = b.exit;
-    if entry_names(entry, x) {
-        return true;
-    }
-    if instruction_names(instruction, x) {
-        return true;
-    }
-    exit_names(exit, x)
+    b.entry.names(x) || b.instruction.names(x) || b.exit.names(x)
 }
