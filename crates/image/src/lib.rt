@@ -3,22 +3,24 @@
 #![tactic(auto)]
 
 mod call;
-pub mod entry;
-pub mod exit;
-pub mod expression;
-pub mod instruction;
-pub mod operand;
-pub mod record;
+mod entry;
+mod exit;
+mod expression;
+mod instruction;
+mod operand;
+mod record;
+
+use rules::Code;
 
 // The offset that moves past each record.
-#[derive(Drop)]
+#[derive(Clone, Copy)]
 pub struct Cursor {
     pub at: usize,
 }
 
 // A refusal: its code, and its place.
-#[derive(Drop)]
+#[derive(Clone, Copy)]
 pub struct Fault {
-    pub code: u32,
+    pub code: Code,
     pub place: usize,
 }
