@@ -2,5 +2,5 @@
 pub mod Good
 pub mod Readings
 pub mod Blocks
-pub mod Program
+pub mod Whole
 pub mod Answer

@@ -1,2 +1,2 @@
-pub mod Shown
+pub mod Blocks
 pub mod Shows
