@@ -1,4 +1,4 @@
--- The order of the signed numbers is that of the biased words, as the code compares them. Assumes nothing.
+-- The order of the signed numbers is that of the biased words. Assumes nothing.
 use Rattle.std.proofs.Common.{◌≡◌, ℕ, suc, ◌-◌, ◌<◌, ◌≤◌, Bool, true, false, ltb, leb, pos, negsuc, sym, refl, arith, le-ltb, lt-ltb, le-leb, leb-false, leb-true}
 use lib.Signed.{lt_z, le_z}
 use borrow.Author.Tests.{lt-leb}

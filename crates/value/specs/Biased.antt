@@ -1,4 +1,4 @@
--- A word moved so that the order of words is that of the signed numbers. Only this crate's comparisons use it.
+-- A word moved so that the order of words is that of the signed numbers. The theorem `signed-values` cites it beside the signed orders.
 use Rattle.std.specs.Prelude.{ℕ, ◌+◌, ◌-◌, ◌%◌, ◌^◌}
 use Rattle.rules.specs.Value.{width, span}
 

@@ -1,2 +1,2 @@
--- What the contracts of this crate cite beside rules.
+-- What the theorem of this crate cites beside rules.
 pub mod Biased

@@ -3,29 +3,9 @@
 #![tactic(auto)]
 
 ghost use Rattle.std.specs.Prelude.{◌≡◌};
-ghost use Rattle.rules.specs.Value.{plus, minus, truth, flag, less, at_most, negated, applied, changed};
-ghost use Rattle.value.specs.Biased.{biased_of};
+ghost use Rattle.rules.specs.Value.{truth, negated, applied, changed};
 
 use rules::{Change, Operator};
-
-fn plus(a: u32, b: u32) -> u32
-    ensures { result ≡ plus a b }
-{
-    std::num::wrapping_add_u32(a, b)
-}
-
-fn minus(a: u32, b: u32) -> u32
-    ensures { result ≡ minus a b }
-{
-    std::num::wrapping_sub_u32(a, b)
-}
-
-// What is true gives 1, what is false 0.
-fn flag(on: bool) -> u32
-    ensures { result ≡ flag on }
-{
-    if on { 1 } else { 0 }
-}
 
 // Zero is false, all else true.
 fn truth(a: u32) -> bool
@@ -34,48 +14,32 @@ fn truth(a: u32) -> bool
     a != 0
 }
 
-// The order of the signed numbers is that of their words with 2 ^ 31 added, wrapped.
-fn biased(a: u32) -> u32
-    ensures { result ≡ biased_of a }
-{
-    std::num::wrapping_add_u32(a, 0x8000_0000)
-}
-
-fn less(a: u32, b: u32) -> bool
-    ensures { result ≡ less a b }
-{
-    biased(a) < biased(b)
-}
-
-fn at_most(a: u32, b: u32) -> bool
-    ensures { result ≡ at_most a b }
-{
-    biased(a) <= biased(b)
-}
-
 // !a
+#[tactic(auto, unfolding(rules::specs::Value::negated))]
 pub fn negated(a: u32) -> u32
     ensures { result ≡ negated a }
 {
-    flag(!truth(a))
+    u32::from(!truth(a))
 }
 
-// a and b under an operator; both sides have been evaluated.
+// a and b under an operator; both sides have been evaluated. What is true gives 1, what is false 0.
+#[tactic(auto, unfolding(rules::specs::Base::pick, rules::specs::Value::signed, rules::specs::Value::less, rules::specs::Value::at_most))]
 pub fn applied(operator: Operator, a: u32, b: u32) -> u32
     ensures { result ≡ applied operator a b }
 {
+    let (signed_a, signed_b) = (a.cast_signed(), b.cast_signed());
     match operator {
-        Operator::Add => plus(a, b),
-        Operator::Subtract => minus(a, b),
+        Operator::Add => a.wrapping_add(b),
+        Operator::Subtract => a.wrapping_sub(b),
         Operator::Xor => a ^ b,
-        Operator::Equal => flag(a == b),
-        Operator::Unequal => flag(a != b),
-        Operator::Less => flag(less(a, b)),
-        Operator::AtMost => flag(at_most(a, b)),
-        Operator::Greater => flag(less(b, a)),
-        Operator::AtLeast => flag(at_most(b, a)),
-        Operator::And => flag(truth(a) & truth(b)),
-        Operator::Or => flag(truth(a) | truth(b)),
+        Operator::Equal => u32::from(a == b),
+        Operator::Unequal => u32::from(a != b),
+        Operator::Less => u32::from(signed_a < signed_b),
+        Operator::AtMost => u32::from(signed_a <= signed_b),
+        Operator::Greater => u32::from(signed_a > signed_b),
+        Operator::AtLeast => u32::from(signed_a >= signed_b),
+        Operator::And => u32::from(truth(a) && truth(b)),
+        Operator::Or => u32::from(truth(a) || truth(b)),
     }
 }
 
@@ -84,8 +48,8 @@ pub fn changed(change: Change, a: u32, b: u32) -> u32
     ensures { result ≡ changed change a b }
 {
     match change {
-        Change::Add => plus(a, b),
-        Change::Subtract => minus(a, b),
+        Change::Add => a.wrapping_add(b),
+        Change::Subtract => a.wrapping_sub(b),
         Change::Xor => a ^ b,
     }
 }
