@@ -1,19 +1,20 @@
 -- The groups of nodes, label by label and block by block. Assumes nothing.
-use Prim.Native.Nat.{ℕ, zero, suc, ◌+◌, ◌<◌, ◌≤◌}
+use Prim.Native.Nat.{ℕ, zero, suc, ◌+◌, ◌<◌}
 use native.Mathlib.Nat.{add-zero, zero-add, add-suc, suc-add, not-suc-le-zero, le_of_suc-le-suc}
 use native.Mathlib.Omega.{arith}
-use mathlib.Core.Path.{◌≡◌, refl, sym, ap, subst, ◌∙◌}
+use mathlib.Core.Path.{◌≡◌, refl, sym, ap, ◌∙◌}
 use mathlib.Core.List.{List, [], ◌∷◌, ◌++◌, map}
-use lib.ListN.{length, take, get_or, set, length-set, length-map}
-use lib.Seq.{get_or-set_same, get_or-set_other, ext_get_or, length-take-le}
-use borrow.Author.Count.{below_none, below_more}
-use Rattle.rules.specs.Base.{up_from}
+use lib.ListN.{length, take, drop, get_or, set, length-map, length-append}
+use lib.Seq.{length-take-le}
+use borrow.Author.Tests.{eq-eqb, ne_eqb}
+use Rattle.std.proofs.lemmas.List.{take_more, take-append-drop}
+use Rattle.std.proofs.lemmas.List.Edits.{map_over_more}
+use Rattle.rules.specs.Base.{pick, up_from}
 use Rattle.rules.specs.Labels.{label_node, ordinary_labels, entry_labels, exit_labels, renamed, join_nodes, join_labels, groups_from, groups}
 use Rattle.rules.specs.declared.Block.{Block}
+use Rattle.laws.proofs.Lists.{get_d_any}
 use Rattle.groups.specs.Nodes.{all_nodes}
-use Rattle.short.specs.declared.Few.{Few}
-use Rattle.short.specs.Few.{few, Lists}
-use Rattle.short.proofs.Programs.{blank, take_more}
+use Rattle.short.proofs.Programs.{blank}
 
 -- ---- lists
 pub get_d_map : (f : ℕ → ℕ) (l : List ℕ) (i d : ℕ) → i < length l → get_or (map f l) i d ≡ f (get_or l i d)
@@ -32,31 +33,20 @@ get_or-up_from a zero i h = absurd (not-suc-le-zero h)
 get_or-up_from a (suc n) zero h = sym (add-zero a)
 get_or-up_from a (suc n) (suc i) h = get_or-up_from (suc a) n i (le_of_suc-le-suc h) ∙ omega arith
 
--- a row that is written from the front: g j at each j before i, and the rest as it was
-pub record Filled (g : ℕ → ℕ) (r : List ℕ) (i : ℕ) (s : List ℕ) : Type 0 where
-  pub size : length s ≡ length r
-  pub done : (j : ℕ) → j < i → get_or s j 0 ≡ g j
-  pub rest : (j : ℕ) → i ≤ j → get_or s j 0 ≡ get_or r j 0
+-- ---- a group renamed, node by node
+module _ (old new : ℕ) (xs ys : List ℕ) (i : ℕ) (lt : i < length xs) (e : ys ≡ map (renamed old new) (take i xs) ++ drop i xs) where
+  node : set ys i (renamed old new (get_or ys i 0)) ≡ map (renamed old new) (take (i + 1) xs) ++ drop (i + 1) xs
+  node =
+      let long : length ys ≡ length xs = ap length e ∙ length-append (map (renamed old new) (take i xs)) (drop i xs) ∙ rw (length-map (take i xs) (renamed old new)) (sym (length-append (take i xs) (drop i xs)) ∙ ap length (take-append-drop i xs)) in
+      map_over_more (renamed old new) xs ys i (get_or ys i 0) lt e (get_d_any ys i 0 _ (omega arith))
 
-module _ (g : ℕ → ℕ) (r : List ℕ) where
-  pub filled_none : Filled g r 0 r
-  filled_none = record { size = refl; done = below_none _; rest = λ j _. refl }
+  pub renamed-node : get_or ys i 0 ≡ old → set ys i new ≡ map (renamed old new) (take (i + 1) xs) ++ drop (i + 1) xs
+  unfolding pick
+  renamed-node h = ap (set ys i) (sym (rw (eq-eqb (get_or ys i 0) old h) refl)) ∙ node
 
-  pub filled_more : (i : ℕ) (s : List ℕ) (v : ℕ) → Filled g r i s → i < length r → v ≡ g i → Filled g r (i + 1) (set s i v)
-  filled_more i s v h lt e =
-      let n : length s ≡ length r = h.size in
-      record {
-        size = length-set s i v ∙ h.size;
-        done =
-            below_more (λ j. get_or (set s i v) j 0 ≡ g j) i (λ j l. get_or-set_other s i j v 0 (omega arith) ∙ h.done j l)
-            (get_or-set_same s i v 0 (omega arith) ∙ e);
-        rest = λ j l. get_or-set_other s i j v 0 (omega arith) ∙ h.rest j (omega arith);
-      }
-
-  pub filled-all : (i : ℕ) (s t : List ℕ) → Filled g r i s → length r ≡ i → length t ≡ i → ((j : ℕ) → j < i → get_or t j 0 ≡ g j) → s ≡ t
-  filled-all i s t h n m e =
-      ext_get_or 0 s t (h.size ∙ n ∙ sym m)
-      (λ j l. let k : j < i = subst (λ (m : ℕ). j < m) (h.size ∙ n) l in h.done j k ∙ sym (e j k))
+  pub other-node : (get_or ys i 0 ≡ old → ⊥) → set ys i (get_or ys i 0) ≡ map (renamed old new) (take (i + 1) xs) ++ drop (i + 1) xs
+  unfolding pick
+  other-node h = ap (set ys i) (sym (rw (ne_eqb (get_or ys i 0) old h) refl)) ∙ node
 
 -- ---- joining
 pub length-join : (g : List ℕ) (a b : ℕ) → length (join_nodes g a b) ≡ length g
@@ -74,11 +64,10 @@ joins-append g b [] m = refl
 joins-append g b (x ∷ l) m = joins-append (join_nodes g b (label_node x)) b l m
 
 -- one label more joined
-pub joins-more : (g : List ℕ) (b : ℕ) (l r s : List ℕ) (k x : ℕ) → k < length l → x ≡ get_or l k 0 → r ≡ join_labels g b (take k l)
-    → s ≡ map (renamed (get_or r (128 + x) 0) (get_or r b 0)) r → s ≡ join_labels g b (take (k + 1) l)
+pub joins-more : (g : List ℕ) (b : ℕ) (l r s : List ℕ) (k : ℕ) → k < length l → r ≡ join_labels g b (take k l)
+    → s ≡ map (renamed (get_or r (128 + get_or l k 0) 0) (get_or r b 0)) r → s ≡ join_labels g b (take (k + 1) l)
 unfolding join_labels join_nodes
-joins-more g b l r s k x h q e d =
-    d ∙ rw (q, e) (sym (rw (take_more l k 0 h) (joins-append g b (take k l) (get_or l k 0 ∷ []))))
+joins-more g b l r s k h e d = d ∙ rw e (sym (rw (take_more l k 0 h) (joins-append g b (take k l) (get_or l k 0 ∷ []))))
 
 -- ---- a program, block by block
 pub length-groups_from : (g : List ℕ) (b : ℕ) (p : List Block) → length (groups_from g b p) ≡ length g
@@ -93,33 +82,22 @@ groups_from-append g b (x ∷ p) q =
     groups_from-append (join_labels g b (ordinary_labels x)) (suc b) p q
     ∙ ap (λ (k : ℕ). groups_from (groups_from (join_labels g b (ordinary_labels x)) (suc b) p) k q) (suc-add b (length p) ∙ sym (add-suc b (length p)))
 
-module _ (blocks : List Block) where
-  -- after the first i blocks
-  abbrev pub groups_of : ℕ → List ℕ
-  groups_of i = groups_from (up_from 0 all_nodes) 0 (take i blocks)
-
-  pub length-groups_of : (i : ℕ) → length (groups_of i) ≡ all_nodes
-  length-groups_of i = length-groups_from (up_from 0 all_nodes) 0 (take i blocks) ∙ length-up_from 0 all_nodes
-
-  pub groups_of_more : (i : ℕ) → i < length blocks → groups_of (i + 1) ≡ join_labels (groups_of i) i (ordinary_labels (get_or blocks i blank))
-  unfolding groups_from
-  groups_of_more i h =
-      rw (take_more blocks i blank h)
-      (groups_from-append (up_from 0 all_nodes) 0 (take i blocks) (get_or blocks i blank ∷ [])
-      ∙ ap (λ (k : ℕ). join_labels (groups_of i) k (ordinary_labels (get_or blocks i blank))) (zero-add (length (take i blocks)) ∙ length-take-le i blocks (omega arith)))
+module _ (blocks : List Block) (i : ℕ) where
+  pub length-groups : length (groups (take i blocks)) ≡ all_nodes
+  unfolding groups
+  length-groups = length-groups_from (up_from 0 all_nodes) 0 (take i blocks) ∙ length-up_from 0 all_nodes
 
   -- one block more: its entry's labels, then its exit's
-  pub block-joined : (i : ℕ) (g h k : List ℕ) (f e : Few) → i < length blocks → g ≡ groups_of i
-      → Lists f (entry_labels (get_or blocks i blank).entry) → Lists e (exit_labels (get_or blocks i blank).exit)
-      → h ≡ join_labels g i (few f) → k ≡ join_labels h i (few e) → k ≡ groups_of (i + 1)
-  block-joined i g h k f e l p lf le q r =
-      r
-      ∙ ap (λ (x : List ℕ). join_labels x i (few e)) (q ∙ ap (λ (x : List ℕ). join_labels g i x) lf.same)
-      ∙ ap (λ (x : List ℕ). join_labels (join_labels g i (entry_labels (get_or blocks i blank).entry)) i x) le.same
-      ∙ sym (joins-append g i (entry_labels (get_or blocks i blank).entry) (exit_labels (get_or blocks i blank).exit))
-      ∙ ap (λ (x : List ℕ). join_labels x i (ordinary_labels (get_or blocks i blank))) p
-      ∙ sym (groups_of_more i l)
-
-pub groups-is : (blocks : List Block) (n : ℕ) → groups_of blocks n ≡ groups (take n blocks)
-unfolding groups
-groups-is blocks n = refl
+  pub groups-more : (g h k l m : List ℕ) → i < length blocks → g ≡ groups (take i blocks)
+      → l ≡ entry_labels (get_or blocks i blank).entry → m ≡ exit_labels (get_or blocks i blank).exit
+      → h ≡ join_labels g i l → k ≡ join_labels h i m → k ≡ groups (take (i + 1) blocks)
+  unfolding groups groups_from
+  groups-more g h k l m lt e p q r s =
+      let e1 : join_labels h i m ≡ join_labels (groups (take i blocks)) i (ordinary_labels (get_or blocks i blank)) =
+      rw (r, p, q, e) (sym (joins-append (groups (take i blocks)) i (entry_labels (get_or blocks i blank).entry) (exit_labels (get_or blocks i blank).exit))) in
+      let at : 0 + length (take i blocks) ≡ i = zero-add (length (take i blocks)) ∙ length-take-le i blocks (omega arith) in
+      let e2 : groups (take (i + 1) blocks) ≡ join_labels (groups (take i blocks)) i (ordinary_labels (get_or blocks i blank)) =
+      rw (take_more blocks i blank lt)
+      (groups_from-append (up_from 0 all_nodes) 0 (take i blocks) (get_or blocks i blank ∷ [])
+      ∙ ap (λ (x : ℕ). join_labels (groups (take i blocks)) x (ordinary_labels (get_or blocks i blank))) at) in
+      s ∙ e1 ∙ sym e2

@@ -2,15 +2,13 @@
 // the number that its group goes by, and joining two nodes renames the group of one.
 #![tactic(auto)]
 
-ghost use Rattle.std.specs.Prelude.{map, ◌≡◌, ◌<◌, ◌≤◌, length, take};
+ghost use Rattle.std.specs.Prelude.{map, ◌≡◌, ◌<◌, ◌≤◌, length};
 ghost use Rattle.rules.specs.Base.{up_from};
 ghost use Rattle.rules.specs.Format.{most_blocks};
 ghost use Rattle.rules.specs.Labels.{renamed, join_labels, groups};
-ghost use Rattle.short.specs.Few.{few};
 ghost use Rattle.groups.specs.Nodes.{all_nodes};
 
 use rules::Block;
-use short::Few;
 
 // 128 blocks, then 256 labels.
 const FIRST_LABEL: usize = 128;
@@ -19,68 +17,44 @@ const NODES: usize = 384;
 
 // Each node by itself.
 fn alone() -> [u16; NODES]
-    ensures { result ≡ up_from 0 (all_nodes) }
+    ensures { result ≡ up_from 0 all_nodes }
 {
-    let mut nodes = [0u16; NODES];
-    let mut i: usize = 0;
-    while i < NODES {
-        nodes[i] = i as u16;
-        i += 1;
-    }
-    nodes
-}
-
-#[tactic(auto, unfolding(rules::specs::Base::pick))]
-fn new_name(old: u16, new: u16, a: u16) -> u16
-    ensures { result ≡ renamed old new a }
-{
-    if a == old { new } else { a }
+    std::array::from_fn(|node| node as u16)
 }
 
 // The group that goes by the old number takes the new one.
 fn rename(nodes: &mut [u16; NODES], old: u16, new: u16)
-    requires { length nodes.old ≡ all_nodes }
     ensures { nodes.new ≡ map (renamed old new) nodes.old }
 {
-    let mut i: usize = 0;
-    while i < NODES {
-        let a = new_name(old, new, nodes[i]);
-        nodes[i] = a;
-        i += 1;
+    for number in nodes.iter_mut() {
+        if *number == old {
+            *number = new;
+        }
     }
 }
 
 // Block b is joined with each of the labels.
-fn join(nodes: &mut [u16; NODES], b: usize, f: Few)
-    requires { (length nodes.old ≡ all_nodes) × (b < most_blocks) × (f.count ≤ 8) }
-    ensures { nodes.new ≡ join_labels nodes.old b (few f) }
+fn join(nodes: &mut [u16; NODES], b: usize, labels: &[u8])
+    requires { b < most_blocks }
+    ensures { nodes.new ≡ join_labels nodes.old b labels.now }
 {
-    let labels = f.labels;
-    let count = f.count;
-    let mut k: usize = 0;
-    while k < count {
-        let l = FIRST_LABEL + laws::index(labels[k]);
-        let old = nodes[l];
+    for l in labels {
+        let label = FIRST_LABEL + usize::from(*l);
+        let old = nodes[label];
         let new = nodes[b];
         rename(nodes, old, new);
-        k += 1;
     }
 }
 
 // The number that each node's group goes by.
-pub fn groups_of(blocks: [Block; 128], n: usize) -> [u16; NODES]
-    requires { n ≤ most_blocks }
-    ensures { result ≡ groups (take n blocks) }
+pub fn groups_of(blocks: &[Block]) -> [u16; NODES]
+    requires { length blocks.now ≤ most_blocks }
+    ensures { result ≡ groups blocks.now }
 {
     let mut nodes = alone();
-    let mut i: usize = 0;
-    while i < n {
-        let b = blocks[i];
-        let entry = b.entry;
-        let exit = b.exit;
-        join(&mut nodes, i, short::of_entry(entry));
-        join(&mut nodes, i, short::of_exit(exit));
-        i += 1;
+    for (b, block) in blocks.iter().enumerate() {
+        join(&mut nodes, b, short::of_entry(block.entry).labels());
+        join(&mut nodes, b, short::of_exit(block.exit).labels());
     }
     nodes
 }

@@ -1,19 +1,19 @@
--- The row that is filled is the one that counts up.
-use Rattle.std.proofs.Common.{refl, arith, ◌∙◌, zero-add}
+-- Each node's number is its own.
+use Rattle.std.proofs.Common.{◌≡◌, get_or, ◌∙◌, sym, rules, zero-add}
+use Rattle.std.proofs.Math.Seq.{ext_get_or}
+use borrow.Author.Tests.{tests}
+use Rattle.rules.specs.Base.{up_from}
 use Rattle.groups.specs.Nodes.{all_nodes}
-use Rattle.groups.proofs.Grouping.{filled_none, filled_more, filled-all, length-up_from, get_or-up_from}
+use Rattle.groups.proofs.Grouping.{length-up_from, get_or-up_from}
 use Rattle.groups.proofs.alone.Goals as goal
-
-pub loop-i-init : goal.loop-i-init
-loop-i-init c = record { within = omega arith; size = refl; filled = filled_none _ _ }
-
-pub loop-i-preserved : goal.loop-i-preserved
-loop-i-preserved c =
-    let p = c.loop-i in
-    record { within = omega arith; size = p.invariant.size; filled = filled_more _ _ _ _ _ p.invariant.filled (omega arith) refl }
 
 pub returns : goal.returns
 returns c =
-    let p = c.loop-i in
-    filled-all _ _ _ _ _ p.invariant.filled (omega arith) (length-up_from 0 all_nodes ∙ omega arith)
-    (λ j l. get_or-up_from 0 all_nodes j (omega arith) ∙ zero-add j)
+    let made = c.from_fn.ensures.items in
+    let nodes = c.from_fn.result in
+    ext_get_or 0 nodes (up_from 0 all_nodes) (made.long ∙ sym (length-up_from 0 all_nodes))
+    (λ k lt.
+    let within = rw made.long at lt in
+    let at = made.at k 0 within in
+    let e : get_or nodes k 0 ≡ k = search (rules, tests) in
+    e ∙ sym (get_or-up_from 0 all_nodes k within ∙ zero-add k))

@@ -1,10 +1,7 @@
 -- The groups are those of the blocks that are passed.
-use Rattle.std.proofs.Common.{◌-◌, ◌≤◌, ◌≡◌, length}
-use Rattle.groups.proofs.Grouping.{groups_of}
+use Rattle.std.proofs.Common.{◌≡◌, take}
+use Rattle.rules.specs.Labels.{groups}
 use Rattle.groups.proofs.groups_of.Given as goal
 
-abbrev pub invariant-loop-i : goal.invariant-loop-i
-invariant-loop-i l = record { within : l.i ≤ l.n; size : length l.blocks ≡ 128; same : l.nodes ≡ groups_of l.blocks l.i }
-
-abbrev pub decreases-loop-i : goal.decreases-loop-i
-decreases-loop-i l = l.n - l.i
+abbrev pub invariant-loop-b : goal.invariant-loop-b
+invariant-loop-b l = l.nodes ≡ groups (take l.b l.blocks)

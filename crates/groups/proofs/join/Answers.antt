@@ -1,23 +1,15 @@
--- One label more is joined, and all of them at the end.
-use Rattle.std.proofs.Common.{ℕ, ◌≡◌, refl, arith, ap, ◌∙◌, take, length, rules}
+-- One label more is joined.
+use Rattle.std.proofs.Common.{refl, arith, ap, ◌∙◌, length}
 use Rattle.rules.specs.Labels.{join_labels}
 use Rattle.groups.proofs.Grouping.{joins-more, length-joins}
 use Rattle.groups.proofs.join.Goals as goal
 
-pub loop-k-init : goal.loop-k-init
+pub loop-l-init : goal.loop-l-init
 unfolding join_labels
-loop-k-init c = record { within = omega arith; few = search rules; size = c.requires.0; same = refl }
+loop-l-init c = record { size = c.told-nodes; same = refl }
 
-pub loop-k-preserved : goal.loop-k-preserved
-loop-k-preserved c =
-    let p = c.loop-k in
-    let a = c.args in
-    let e = joins-more a.nodes.now a.b a.f.labels _ _ p.k _ (omega arith) c.index-l.ensures.0 p.invariant.same c.rename.ensures in
-    record { within = omega arith; few = p.invariant.few; size = ap length e ∙ length-joins _ _ _ ∙ c.requires.0; same = e }
-
-pub returns : goal.returns
-returns c =
-    let p = c.loop-k in
-    let a = c.args in
-    let e : p.k ≡ a.f.count = omega arith in
-    p.invariant.same ∙ ap (λ (k : ℕ). join_labels a.nodes.now a.b (take k a.f.labels)) e
+pub loop-l-preserved : goal.loop-l-preserved
+loop-l-preserved c =
+    let p = c.loop-l in
+    let e = joins-more c.args.nodes.now c.args.b c.args.labels.now _ _ p.l-index (omega arith) p.invariant.same (rw c.from-label.ensures at c.rename.ensures) in
+    record { size = ap length e ∙ length-joins _ _ _ ∙ c.told-nodes; same = e }

@@ -1,12 +1,7 @@
 -- The nodes that are passed are renamed, and the others are as they were.
-use Rattle.std.proofs.Common.{◌-◌, ◌≤◌, get_or}
+use Rattle.std.proofs.Common.{◌≡◌, ◌++◌, drop, map, take}
 use Rattle.rules.specs.Labels.{renamed}
-use Rattle.groups.specs.Nodes.{all_nodes}
-use Rattle.groups.proofs.Grouping.{Filled}
 use Rattle.groups.proofs.rename.Given as goal
 
-abbrev pub invariant-loop-i : goal.invariant-loop-i
-invariant-loop-i l = record { within : l.i ≤ all_nodes; filled : Filled (λ j. renamed l.old l.new (get_or l.initial.nodes j 0)) l.initial.nodes l.i l.nodes }
-
-abbrev pub decreases-loop-i : goal.decreases-loop-i
-decreases-loop-i l = all_nodes - l.i
+abbrev pub invariant-loop-number : goal.invariant-loop-number
+invariant-loop-number l = l.nodes ≡ map (renamed l.old l.new) (take l.number-index l.initial.nodes) ++ drop l.number-index l.initial.nodes
