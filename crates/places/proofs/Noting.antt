@@ -1,64 +1,91 @@
--- A block put at the labels that it holds. Assumes nothing.
-use Prim.Native.Nat.{ℕ, ◌<◌}
-use mathlib.Core.Path.{◌≡◌, refl, sym, subst, ◌∙◌}
-use mathlib.Core.Bool.{Bool, true, false, ◌||◌}
-use mathlib.Core.List.{List}
-use lib.ListN.{length, get_or, set, length-set}
-use lib.Seq.{get_or-set_same, get_or-set_other}
+-- A block put at labels, one after the other. Assumes nothing.
+use Prim.Native.Nat.{ℕ, ◌+◌, ◌<◌, ◌≤◌}
+use mathlib.Core.Path.{◌≡◌, refl, sym, ap, subst, ◌∙◌}
+use mathlib.Core.Bool.{Bool, true, false, ◌||◌, or-false}
+use mathlib.Core.List.{List, [], ◌∷◌}
+use lib.ListN.{length, get_or, set, take, length-set}
+use lib.Seq.{get_or-set_same, get_or-set_other, take_all}
 use lib.Dec.{eqb}
 use borrow.Author.Tests.{eqb-true, eqb-false}
-use Rattle.rules.specs.Base.{pick}
+use Rattle.rules.specs.Base.{pick, some_of}
+use Rattle.rules.specs.Machine.{place, begin, run, end}
+use Rattle.laws.proofs.Lists.{get_d_any}
+use Rattle.rules.specs.Labels.{no_block, block_of, entry_labels, exit_labels, begin_labels, end_labels}
+use Rattle.rules.specs.Fits.{entry_holds, exit_holds}
+use Rattle.rules.specs.declared.Block.{Block}
 use Rattle.rules.specs.declared.Entry.{Entry}
 use Rattle.rules.specs.declared.Exit.{Exit}
-use Rattle.rules.specs.declared.Expression.{Expression}
-use Rattle.places.specs.Places.{Noted, EntryNoted, ExitNoted}
+use Rattle.short.proofs.Programs.{take_more, some-of_append}
+use Rattle.places.specs.Places.{Noted}
 
--- at one label
-pub noted_at : (t : List ℕ) (l b : ℕ) → l < length t → Noted (λ x. eqb x l) b t (set t l b)
-unfolding pick
-noted_at t l b h = record { size = length-set t l b; each = λ x d. go x d (eqb x l) refl }
+pub noted_none : (ls t : List ℕ) (b : ℕ) → Noted (take 0 ls) b t t
+unfolding pick some_of
+noted_none ls t b = record { size = refl; each = λ x d. refl }
+
+-- at one label more
+pub noted_more : (ls t u : List ℕ) (i l b : ℕ) → i < length ls → l ≡ get_or ls i 0 → l < length u → Noted (take i ls) b t u
+    → Noted (take (i + 1) ls) b t (set u l b)
+unfolding pick some_of
+noted_more ls t u i l b h e within n =
+    record {
+      size = length-set u l b ∙ n.size;
+      each = λ x d. rw (take_more ls i 0 h, some-of_append (eqb x) (take i ls) (get_or ls i 0 ∷ []), ← e) (go x d (eqb x l) refl);
+    }
   where
-    go : (x d : ℕ) (e : Bool) → eqb x l ≡ e → get_or (set t l b) x d ≡ pick (eqb x l) b (get_or t x d)
-    go x d true e = rw (e, eqb-true x l e) (get_or-set_same t l b d h)
-    go x d false e = rw e (get_or-set_other t l x b d (eqb-false x l e))
+    first : (u : Bool) (old : ℕ) → b ≡ pick (u || (true || false)) b old
+    first true old = refl
+    first false old = refl
 
--- at none
-noted_none : (t : List ℕ) (b : ℕ) → Noted (λ x. false) b t t
-unfolding pick
-noted_none t b = record { size = refl; each = λ x d. refl }
+    kept : (u : Bool) (old : ℕ) → pick u b old ≡ pick (u || (false || false)) b old
+    kept true old = refl
+    kept false old = refl
 
--- at two, one after the other
-noted_two : (p q : ℕ → Bool) (b : ℕ) (t u v : List ℕ) → Noted p b t u → Noted q b u v → Noted (λ x. p x || q x) b t v
-unfolding pick
-noted_two p q b t u v h k = record { size = k.size ∙ h.size; each = λ x d. k.each x d ∙ rw (h.each x d) (go (p x) (q x) (get_or t x d)) }
-  where
-    go : (m n : Bool) (old : ℕ) → pick n b (pick m b old) ≡ pick (m || n) b old
-    go true true old = refl
-    go true false old = refl
-    go false n old = refl
+    go : (x d : ℕ) (v : Bool) → eqb x l ≡ v → get_or (set u l b) x d ≡ pick (some_of (eqb x) (take i ls) || (eqb x l || false)) b (get_or t x d)
+    go x d true q = rw q (rw (eqb-true x l q) (get_or-set_same u l b d within) ∙ first (some_of (eqb x) (take i ls)) (get_or t x d))
+    go x d false q = rw q (get_or-set_other u l x b d (eqb-false x l q) ∙ n.each x d ∙ kept (some_of (eqb x) (take i ls)) (get_or t x d))
 
--- at the labels of an entry, arm by arm
-module _ (e : Entry) (l b : ℕ) (t u other : List ℕ) where
-  pub noted_from : e ≡ Entry.From l → Noted (λ x. eqb x l) b t u → EntryNoted e b t u other other
-  noted_from q h = subst (λ (a : Entry). EntryNoted a b t u other other) (sym q) (h, noted_none other b)
+pub noted_all : (ls t u : List ℕ) (i b : ℕ) → length ls ≤ i → Noted (take i ls) b t u → Noted ls b t u
+noted_all ls t u i b h n = subst (λ (l : List ℕ). Noted l b t u) (take_all i ls h) n
 
-  pub noted_either : (m : ℕ) (c : Expression) (v : List ℕ) → e ≡ Entry.Either l m c → Noted (λ x. eqb x l) b t u → Noted (λ x. eqb x m) b u v
-      → EntryNoted e b t v other other
-  noted_either m c v q h k =
-      subst (λ (a : Entry). EntryNoted a b t v other other) (sym q) (noted_two (λ x. eqb x l) (λ x. eqb x m) b t u v h k, noted_none other b)
+-- rules' tests look through the same labels
+entry-run : (e : Entry) (x : ℕ) → entry_holds e (place x run) ≡ some_of (eqb x) (entry_labels e)
+unfolding some_of
+entry-run (Entry.From l) x = sym (or-false (eqb x l))
+entry-run (Entry.Either l m c) x = ap (λ (v : Bool). eqb x l || v) (sym (or-false (eqb x m)))
+entry-run (Entry.Begin l) x = refl
 
-  pub noted_begin : e ≡ Entry.Begin l → Noted (λ x. eqb x l) b t u → EntryNoted e b other other t u
-  noted_begin q h = subst (λ (a : Entry). EntryNoted a b other other t u) (sym q) (noted_none other b, h)
+entry-begin : (e : Entry) (x : ℕ) → entry_holds e (place x begin) ≡ some_of (eqb x) (begin_labels e)
+unfolding some_of
+entry-begin (Entry.From l) x = refl
+entry-begin (Entry.Either l m c) x = refl
+entry-begin (Entry.Begin l) x = sym (or-false (eqb x l))
 
--- at the labels of an exit, arm by arm
-module _ (e : Exit) (l b : ℕ) (t u other : List ℕ) where
-  pub noted_to : e ≡ Exit.To l → Noted (λ x. eqb x l) b t u → ExitNoted e b t u other other
-  noted_to q h = subst (λ (a : Exit). ExitNoted a b t u other other) (sym q) (h, noted_none other b)
+exit-run : (e : Exit) (x : ℕ) → exit_holds e (place x run) ≡ some_of (eqb x) (exit_labels e)
+unfolding some_of
+exit-run (Exit.To l) x = sym (or-false (eqb x l))
+exit-run (Exit.Either c l m) x = ap (λ (v : Bool). eqb x l || v) (sym (or-false (eqb x m)))
+exit-run (Exit.End l) x = refl
 
-  pub noted_or : (m : ℕ) (c : Expression) (v : List ℕ) → e ≡ Exit.Either c l m → Noted (λ x. eqb x l) b t u → Noted (λ x. eqb x m) b u v
-      → ExitNoted e b t v other other
-  noted_or m c v q h k =
-      subst (λ (a : Exit). ExitNoted a b t v other other) (sym q) (noted_two (λ x. eqb x l) (λ x. eqb x m) b t u v h k, noted_none other b)
+exit-end : (e : Exit) (x : ℕ) → exit_holds e (place x end) ≡ some_of (eqb x) (end_labels e)
+unfolding some_of
+exit-end (Exit.To l) x = refl
+exit-end (Exit.Either c l m) x = refl
+exit-end (Exit.End l) x = sym (or-false (eqb x l))
 
-  pub noted_end : e ≡ Exit.End l → Noted (λ x. eqb x l) b t u → ExitNoted e b other other t u
-  noted_end q h = subst (λ (a : Exit). ExitNoted a b other other t u) (sym q) (noted_none other b, h)
+-- the same for a block as the code reads it
+module _ (blocks : List Block) (i : ℕ) (d : Block) (ls : List ℕ) (l : i < length blocks) where
+  here : block_of blocks i ≡ get_or blocks i d
+  here = get_d_any blocks i no_block d l
+
+  pub entry_at : ls ≡ entry_labels (get_or blocks i d).entry → (x : ℕ) → entry_holds (block_of blocks i).entry (place x run) ≡ some_of (eqb x) ls
+  entry_at e x = entry-run (block_of blocks i).entry x ∙ ap (λ (k : Block). some_of (eqb x) (entry_labels k.entry)) here ∙ ap (some_of (eqb x)) (sym e)
+
+  pub begin_at : ls ≡ begin_labels (get_or blocks i d).entry → (x : ℕ) → entry_holds (block_of blocks i).entry (place x begin) ≡ some_of (eqb x) ls
+  begin_at e x =
+      entry-begin (block_of blocks i).entry x ∙ ap (λ (k : Block). some_of (eqb x) (begin_labels k.entry)) here ∙ ap (some_of (eqb x)) (sym e)
+
+  pub exit_at : ls ≡ exit_labels (get_or blocks i d).exit → (x : ℕ) → exit_holds (block_of blocks i).exit (place x run) ≡ some_of (eqb x) ls
+  exit_at e x = exit-run (block_of blocks i).exit x ∙ ap (λ (k : Block). some_of (eqb x) (exit_labels k.exit)) here ∙ ap (some_of (eqb x)) (sym e)
+
+  pub end_at : ls ≡ end_labels (get_or blocks i d).exit → (x : ℕ) → exit_holds (block_of blocks i).exit (place x end) ≡ some_of (eqb x) ls
+  end_at e x = exit-end (block_of blocks i).exit x ∙ ap (λ (k : Block). some_of (eqb x) (end_labels k.exit)) here ∙ ap (some_of (eqb x)) (sym e)
