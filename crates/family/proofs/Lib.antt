@@ -1,3 +1,3 @@
 -- The laws of this crate.
-pub mod Counting
+pub mod Rows
 pub mod Looking
