@@ -8,10 +8,10 @@ use lib.Seq.{take_at, drop_at, drop-drop, length-take-le}
 use Rattle.rules.specs.Base.{zeros}
 use Rattle.rules.specs.Machine.{Process, Machine, pack_rows, pack_history, padded, pack}
 use Rattle.laws.proofs.Pack.{Sized, front, length_front, pack_rows-append, length-pack_rows}
-use Rattle.edits.specs.Splice.{splice}
+use Rattle.machine.specs.Splice.{splice}
 use Rattle.change.specs.Words.{inserted_rows, removed_rows}
 use Rattle.machine.specs.Index.{inserted, removed}
-use Rattle.edits.proofs.Splice.{mid, zeros-add}
+use Rattle.machine.proofs.Splice.{mid, zeros-add}
 
 -- the words of a part that starts where the first piece ends
 part_at : (w A B S : List ℕ) (i k : ℕ) → w ≡ A ++ (B ++ S) → length A ≡ i → length B ≡ k → take k (drop i w) ≡ B

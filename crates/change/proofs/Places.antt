@@ -9,10 +9,10 @@ use lib.Seq.{split_at, length-take-le, take_at, drop_at}
 use Rattle.rules.specs.Base.{zeros}
 use Rattle.rules.specs.Machine.{Process, Kept, Machine, place, pack_rows, pack_history, padded, pack}
 use Rattle.laws.proofs.Pack.{Sized, front, length_front, length-head, length-pack, pack_rows-append, pack_history-append, length-pack_rows, length-pack_history}
-use Rattle.edits.specs.Splice.{splice}
+use Rattle.machine.specs.Splice.{splice}
 use Rattle.change.specs.Words.{kept_entry, closed_entry, moved_row}
 use Rattle.machine.specs.Index.{kept, without, row_at, moved}
-use Rattle.edits.proofs.Splice.{mid, two-stores, zeros-add}
+use Rattle.machine.proofs.Splice.{mid, two-stores, zeros-add}
 
 two-more : (k z : ℕ) → k ≡ 2 + z → zeros k ≡ zeros 2 ++ zeros z
 two-more k z e = ap zeros e ∙ sym (zeros-add 2 z)

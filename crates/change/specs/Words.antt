@@ -2,7 +2,7 @@
 -- changed machine.
 use Rattle.std.specs.Prelude.{ℕ, ◌+◌, ◌-◌, ◌*◌, List, ◌++◌, take, drop, set}
 use Rattle.rules.specs.Base.{zeros}
-use Rattle.edits.specs.Splice.{splice}
+use Rattle.machine.specs.Splice.{splice}
 use Rattle.rules.specs.Machine.{memory_at, live_count, history_count}
 
 -- a value of the memory

@@ -5,5 +5,6 @@ use Rattle.change.proofs.close_up.Goals as goal
 
 pub returns : goal.returns
 returns c =
-    closed-code c.args.m.now c.move_down.new.m c.clear.new.dst c.wide-n.result c.args.i (omega arith) (omega arith)
-    (omega arith) c.move_down.ensures c.clear.ensures
+    let v = c.copy_within.ensures in
+    closed-code c.args.m.now c.copy_within.new.self c.fill.new.self c.args.i (omega arith) (omega arith) v.len v.after
+    (c.fill.ensures.after (λ y e. e))

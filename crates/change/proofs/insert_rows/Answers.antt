@@ -5,5 +5,5 @@ use Rattle.change.proofs.insert_rows.Goals as goal
 
 pub returns : goal.returns
 returns c =
-    inserted-code c.args.m.now c.move_up.new.m c.copy_in.new.dst c.args.new.now c.wide-live.result c.args.i c.args.n c.narrow.result
-    (omega arith) (omega arith) (omega arith) (omega arith) (omega arith) c.move_up.ensures c.copy_in.ensures
+    inserted-code c.args.m.now c.copy_within.new.self c.copy_from_slice.new.self c.args.new.now c.args.i c.args.n (omega arith) (omega arith)
+    (omega arith) c.copy_within.ensures.after c.copy_from_slice.ensures.after

@@ -5,5 +5,6 @@ use Rattle.change.proofs.remove_rows.Goals as goal
 
 pub returns : goal.returns
 returns c =
-    removed-code c.args.m.now c.move_down.new.m c.clear.new.dst c.wide-live.result c.args.i c.args.n c.narrow.result
-    (omega arith) (omega arith) (omega arith) (omega arith) c.move_down.ensures c.clear.ensures
+    let v = c.copy_within.ensures in
+    removed-code c.args.m.now c.copy_within.new.self c.fill.new.self c.args.i c.args.n (omega arith) (omega arith) v.len v.after
+    (c.fill.ensures.after (λ y e. e))

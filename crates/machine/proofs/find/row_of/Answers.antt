@@ -1,17 +1,15 @@
--- The loop stops at the first row that has the identifier, or past the last.
-use Rattle.std.proofs.Common.{ap, ◌∙◌, arith}
-use borrow.Author.Tests.{eq-eqb}
-use Rattle.rules.specs.Base.{lowest}
-use Rattle.laws.proofs.Search.{lowest-is}
-use Rattle.machine.specs.RowOf.{row_of}
+-- What is found is the lowest row with the identifier.
+use Rattle.std.proofs.Common.{◌≡◌, ◌+◌, ◌*◌, rules, arith, tests, get_or}
+use Rattle.std.proofs.lemmas.List.{get_or_read}
+use Rattle.std.proofs.lemmas.Iterator.{first_from_Range}
+use Rattle.machine.proofs.RowFound.{row-found}
 use Rattle.machine.proofs.find.row_of.Goals as goal
 
-pub returns-then-m-i : goal.returns-then-m-i
-unfolding row_of
-returns-then-m-i c =
-    lowest-is _ _ _ (omega arith) c.loop-i.invariant.1 (λ _. eq-eqb _ _ c.if-m-i.true) ∙ ap (lowest _) c.wide-live.ensures
-
-pub returns : goal.returns
-unfolding row_of
-returns c =
-    lowest-is _ _ _ c.loop-i.invariant.0 c.loop-i.invariant.1 (λ h. absurd (omega arith)) ∙ ap (lowest _) c.wide-live.ensures
+pub returns-clause-row : goal.returns-clause-row
+returns-clause-row c =
+    let m = c.args.m.now in
+    let p = c.args.identifier in
+    row-found m p c.find.result
+    (first_from_Range _ _ _ _ (λ i. get_or m (290 + 3 * i) 0 ≡ p) (λ i. get_or m (290 + 3 * i) 0 ≡ p → ⊥) c.find.ensures.ran
+    (λ i q k. grind (arith, tests, get_or_read))
+    (λ i q k. (search rules, grind (arith, tests, get_or_read))))

@@ -4,10 +4,11 @@ use mathlib.Core.List.{List, [], ◌∷◌, ◌++◌, append_assoc}
 use Prim.Native.Nat.{ℕ, ◌+◌, ◌-◌, ◌≤◌}
 use native.Mathlib.Numerals.{add-one}
 use native.Mathlib.Omega.{arith}
+use borrow.Rule.Slice.PartMut.{put_mid}
 use lib.ListN.{length, take, drop, set, length-append, length-drop, replicate-append-replicate}
 use lib.Seq.{sets-eq, take_at, drop_at, take-paste, drop-paste, drop-drop, take-append-le, take-take, length-take-le}
 use Rattle.rules.specs.Base.{zeros}
-use Rattle.edits.specs.Splice.{splice}
+use Rattle.machine.specs.Splice.{splice}
 
 -- the middle of three pieces replaced
 pub mid : (w A X S y : List ℕ) (i j : ℕ) → w ≡ A ++ (X ++ S) → length A ≡ i → i + length X ≡ j → splice w i y j ≡ A ++ y ++ S
@@ -17,6 +18,11 @@ mid w A X S y i j e a x =
     ap (λ (r : List ℕ). take i r ++ y ++ drop j r) e
     ∙ ap (λ (r : List ℕ). r ++ y ++ drop j (A ++ (X ++ S))) (take_at A (X ++ S) i a)
     ∙ ap (λ (r : List ℕ). A ++ y ++ r) (ap (λ (r : List ℕ). drop j r) (sym (append_assoc A X S)) ∙ drop_at (A ++ X) S j l)
+
+-- k words from a on, written as a part
+pub put-splice : (a k : ℕ) (xs ys : List ℕ) → put_mid a k xs ys ≡ splice xs a ys (a + k)
+unfolding splice
+put-splice a k xs ys = sym (append_assoc (take a xs) ys (drop k (drop a xs))) ∙ ap (λ (r : List ℕ). take a xs ++ ys ++ r) (drop-drop k a xs)
 
 -- two stores, one after the other, as code leaves them
 pub two-stores : (w : List ℕ) (i a b : ℕ) → i + 2 ≤ length w → set (set w i a) (i + 1) b ≡ splice w i (a ∷ b ∷ []) (i + 2)
