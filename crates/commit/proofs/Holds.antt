@@ -1,5 +1,5 @@
 -- Words that hold a machine of the right sizes, and the edits of words as changes of the machine that they hold. Assumes nothing.
-use mathlib.Core.Path.{◌≡◌, refl, sym, ap, ◌∙◌}
+use mathlib.Core.Path.{◌≡◌, refl, sym, ap, ap₂, ◌∙◌}
 use mathlib.Core.List.{List, [], ◌∷◌, ◌++◌, append_assoc}
 use Prim.Native.Nat.{ℕ, zero, suc, ◌+◌, ◌≤◌, ◌<◌}
 use native.Mathlib.Omega.{arith}
@@ -13,7 +13,13 @@ use Rattle.change.specs.Words.{written_words, kept_entry, closed_entry, moved_ro
 use Rattle.machine.specs.Index.{kept, without, row_at, moved, inserted, removed}
 use Rattle.change.proofs.Places.{kept-pack, closed-pack, moved-pack}
 use Rattle.change.proofs.Family.{inserted-pack, removed-pack}
-use Rattle.step.specs.Planned.{Lent, writes_made, written_in}
+use Rattle.rules.specs.Format.{named}
+use Rattle.rules.specs.Step.{child_rows}
+use Rattle.rules.specs.declared.Names.{Names}
+use Rattle.step.specs.Planned.{Lent, writes_made, written_in, identifier_at}
+use Rattle.step.specs.Ready.{process_at}
+use Rattle.step.proofs.Standing.{live-identifier}
+use Rattle.step.proofs.Named.{length-children, named_count}
 
 pub record Holds (w : List ℕ) (m : Machine) : Type 0 where
   pub words : w ≡ pack m
@@ -54,11 +60,12 @@ module _ {w : List ℕ} {m : Machine} (h : Holds w m) where
         };
       }
 
-  pub holds_kept : {w' : List ℕ} (p b : ℕ) → w' ≡ kept_entry w p b → length m.history < 4096 → Holds w' (kept m p b)
+  -- the process is told by its row
+  pub holds_kept : {w' : List ℕ} {told : ℕ} (p b : ℕ) → w' ≡ kept_entry w told b → told ≡ p → length m.history < 4096 → Holds w' (kept m p b)
   unfolding kept
-  holds_kept p b e k =
+  holds_kept p b e t k =
       record {
-        words = e ∙ ap (λ (v : List ℕ). kept_entry v p b) h.words ∙ kept-pack m h.sized p b k;
+        words = e ∙ ap₂ (λ (v : List ℕ) (q : ℕ). kept_entry v q b) h.words t ∙ kept-pack m h.sized p b k;
         sized = record {
           memory288 = h.sized.memory288;
           rows64 = h.sized.rows64;
@@ -123,6 +130,29 @@ module _ {w : List ℕ} {m : Machine} (h : Holds w m) where
           history4096 = h.sized.history4096;
         };
       }
+
+  pub holds-children :
+      {w' : List ℕ} {told : ℕ} (i p stage : ℕ) (names : Names) → w' ≡ inserted_rows w i names.count (pack_rows (child_rows told stage 1 (named names)))
+      → told ≡ p → names.count ≤ 8 → length names.labels ≡ 8 → i ≤ length m.rows → length m.rows + names.count ≤ 64
+      → Holds w' (inserted m i (child_rows p stage 1 (named names)))
+  holds-children i p stage names e t few eight k r =
+      holds-inserted i names.count (child_rows p stage 1 (named names))
+      (e ∙ ap (λ (q : ℕ). inserted_rows w i names.count (pack_rows (child_rows q stage 1 (named names)))) t)
+      (sym (length-children p stage 1 (named names) ∙ named_count names few eight)) k r
+
+-- the words of a machine whose row is moved
+module _ (m : Machine) (i l s : ℕ) where
+  pub moved-many : length (moved m i l s).rows ≡ length m.rows
+  unfolding moved
+  moved-many = length-row_at m.rows i l s
+
+-- words that a plan is for, and the process of a row
+module _ {w : List ℕ} (lent : Lent w) (row : ℕ) (live : row < length (view w).rows) where
+  pub row_fits : (length w ≡ 8674) × (row < 64)
+  row_fits = (lent.long, omega (arith, live, (holds-view w lent).sized.rows64))
+
+  pub row-told : {told : ℕ} → told ≡ process_at w row → told ≡ identifier_at (view w) row
+  row-told e = e ∙ live-identifier w row live
 
 -- one write
 abbrev with_memory : Machine → List ℕ → Machine

@@ -1,52 +1,31 @@
 -- Each edit of words is a change of the machine that they hold.
-use mathlib.Core.Path.{◌≡◌, ap, ◌∙◌}
-use native.Mathlib.Omega.{arith}
-use Prim.Native.Nat.{ℕ}
+use Rattle.std.proofs.Common.{ℕ, arith}
 use Rattle.rules.specs.Machine.{view}
-use Rattle.machine.specs.Index.{moved, inserted, removed}
-use Rattle.change.specs.Words.{kept_entry}
-use Rattle.step.specs.Planned.{written_in, identifier_at, merge_made}
-use Rattle.step.proofs.Standing.{live-identifier}
-use Rattle.commit.proofs.Holds.{holds-view, long, live-count, kept-count, holds_kept, holds-removed}
+use Rattle.machine.specs.Index.{removed}
+use Rattle.step.specs.Planned.{identifier_at, merge_made}
+use Rattle.commit.proofs.Holds.{holds-view, long, live-count, kept-count, holds_kept, holds-removed, row_fits, row-told}
 use Rattle.commit.proofs.merge.Goals as goal
 
-pub identifier-p-requires : goal.identifier-p-requires
-unfolding written_in moved inserted removed
-identifier-p-requires c =
-    let a = c.args in
-    let f = c.requires.1 in
-    let w = a.m.now in
-    let h0 = holds-view w c.requires.0 in
-    (c.requires.0.long, omega (arith, f.live, h0.sized.rows64))
+pub of_row-p-requires : goal.of_row-p-requires
+of_row-p-requires c = row_fits c.requires.0 c.args.row c.requires.1.live
 
 pub remove_rows-requires : goal.remove_rows-requires
-unfolding written_in moved inserted removed
 remove_rows-requires c =
-    let a = c.args in
-    let f = c.requires.1 in
-    let w = a.m.now in
-    let h0 = holds-view w c.requires.0 in
-    (long h0, omega (arith, live-count h0, h0.sized.rows64), omega (arith, live-count h0, f.at))
+    let h = holds-view c.args.m.now c.requires.0 in
+    (long h, omega (arith, live-count h, h.sized.rows64), omega (arith, live-count h, c.requires.1.at))
 
 pub keep-requires : goal.keep-requires
-unfolding written_in moved inserted removed
+unfolding removed
 keep-requires c =
     let a = c.args in
-    let f = c.requires.1 in
-    let w = a.m.now in
-    let h0 = holds-view w c.requires.0 in
-    let h1 = holds-removed h0 a.first a.count c.remove_rows.ensures f.at in
-    (long h1, omega (arith, kept-count h1, f.room))
+    let h = holds-removed (holds-view a.m.now c.requires.0) a.first a.count c.remove_rows.ensures c.requires.1.at in
+    (long h, omega (arith, kept-count h, c.requires.1.room))
 
 pub returns : goal.returns
-unfolding merge_made written_in moved inserted removed
+unfolding merge_made removed
 returns c =
     let a = c.args in
     let f = c.requires.1 in
-    let w = a.m.now in
-    let h0 = holds-view w c.requires.0 in
-    let p : ℕ = identifier_at (view w) a.row in
-    let pe : c.identifier-p.result ≡ p = c.identifier-p.ensures ∙ live-identifier w a.row f.live in
-    let h1 = holds-removed h0 a.first a.count c.remove_rows.ensures f.at in
-    let h2 = holds_kept h1 p a.block (c.keep.ensures ∙ ap (λ (x : ℕ). kept_entry c.remove_rows.new.m x a.block) pe) f.room in
-    h2.words
+    let p : ℕ = identifier_at (view a.m.now) a.row in
+    let h = holds-removed (holds-view a.m.now c.requires.0) a.first a.count c.remove_rows.ensures f.at in
+    (holds_kept h p a.block c.keep.ensures (row-told c.requires.0 a.row f.live c.of_row-p.ensures.identifier) f.room).words
