@@ -15,8 +15,6 @@ use Rattle.std.proofs.lemmas.List.Folds.{list_all-append}
 use Rattle.rules.specs.Base.{pick, times, each_of}
 use Rattle.rules.specs.Labels.{entry_labels, exit_labels, begin_labels, end_labels, ordinary_labels, count, ordinary, outer, bad10}
 use Rattle.rules.specs.declared.Block.{Block}
-use Rattle.rules.specs.declared.Entry.{Entry}
-use Rattle.rules.specs.declared.Exit.{Exit}
 use Rattle.laws.proofs.Times.{times-append}
 use Rattle.labels.specs.declared.counts.Counts.{Counts}
 use Rattle.short.specs.Low.{most, Low}
@@ -97,26 +95,6 @@ module _ (stands : Block → List ℕ) (short : (b : Block) → length (stands b
   pub counted-room :
       (program : List Block) (a l : List ℕ) (b : Block) → length program < 128 → Counted stands program a → l ≡ stands b → Low most a × (length l ≤ most)
   counted-room program a l b few h e = (λ x. omega (arith, h.each x, count-le program x), omega (arith, ap length e, short b))
-
-pub entry-short : (e : Entry) → length (entry_labels e) ≤ 8
-entry-short (Entry.From l) = omega arith
-entry-short (Entry.Either l m e) = omega arith
-entry-short (Entry.Begin l) = omega arith
-
-pub exit-short : (e : Exit) → length (exit_labels e) ≤ 8
-exit-short (Exit.To l) = omega arith
-exit-short (Exit.Either e l m) = omega arith
-exit-short (Exit.End l) = omega arith
-
-pub begin-short : (e : Entry) → length (begin_labels e) ≤ 8
-begin-short (Entry.From l) = omega arith
-begin-short (Entry.Either l m e) = omega arith
-begin-short (Entry.Begin l) = omega arith
-
-pub end-short : (e : Exit) → length (end_labels e) ≤ 8
-end-short (Exit.To l) = omega arith
-end-short (Exit.Either e l m) = omega arith
-end-short (Exit.End l) = omega arith
 
 -- ---- code 10
 parts : (p : ℕ → Bool) (l m : List ℕ) → each_of p (l ++ m) ≡ list_all p l && list_all p m

@@ -1,27 +1,31 @@
--- The begins and the ends of groups, block by block; code 11 and the labels of process blocks from them. Assumes nothing.
+-- The begins and ends of groups, block by block; code 11 and the labels of process blocks from them. Assumes nothing.
 use Prim.Native.Nat.{ℕ, zero, suc, ◌+◌, ◌*◌, ◌<◌, ◌≤◌}
 use native.Mathlib.Nat.{add-zero, zero-add, add-suc, suc-add}
-use native.Mathlib.Numerals.{add-one}
 use native.Mathlib.Omega.{arith}
+use denote.Param.Members.{Mut, Called}
 use mathlib.Core.Path.{◌≡◌, refl, sym, ap, subst, fun_ext, ◌∙◌}
 use mathlib.Core.Bool.{Bool, true, false, not, ◌&&◌}
 use mathlib.Core.Logic.{⊎_elim}
-use mathlib.Core.List.{List, [], ◌∷◌, ◌++◌, map, map-append, append_assoc, append-nil}
-use lib.ListN.{length, take, get_or, set, length-set, length-append, length-map, replicate, get_or-eq_default}
-use lib.Seq.{length-take-le, take-suc-set}
+use mathlib.Core.List.{List, [], ◌∷◌, ◌++◌, map, append_assoc, append-nil}
+use lib.ListN.{length, take, get_or, set, length-set, length-append, length-map, get_or-eq_default}
+use lib.Seq.{length-take-le, get_or-take, ext_get_or}
 use lib.Dec.{eqb}
-use borrow.Author.Tests.{ne_eqb, eqb-true}
-use Rattle.rules.specs.Base.{pick, lowest, up_from}
-use Rattle.rules.specs.Labels.{label_node, ordinary_labels, renamed, join_nodes, join_labels, groups_from, groups, within, own_begins, own_ends, one_label, bad11, home}
+use borrow.Author.Tests.{eq-eqb, ne_eqb, eqb-true}
+use Rattle.std.specs.Array.{IsFromFnResultFrom}
+use Rattle.std.proofs.lemmas.List.{set-get_or}
+use Rattle.rules.specs.Base.{pick, up_from}
+use Rattle.rules.specs.Labels.{label_node, ordinary_labels, renamed, join_nodes, join_labels, groups_from, groups, within, own_begins, own_ends, begin_labels, one_label, bad11, home}
 use Rattle.rules.specs.declared.Block.{Block}
+use Rattle.laws.specs.Found.{found}
+use Rattle.laws.proofs.Lists.{pick_true, pick-false}
 use Rattle.laws.proofs.Search.{lt-or_le}
 use Rattle.groups.specs.Nodes.{all_nodes}
-use Rattle.short.specs.declared.Few.{Few}
-use Rattle.processes.specs.declared.Own.{Own}
-use Rattle.short.specs.Few.{few, Lists}
-use Rattle.short.specs.Low.{most, Low}
-use Rattle.processes.specs.Own.{Below, noted_counts, noted_firsts, Tallied, OwnOf, one_at}
-use Rattle.short.proofs.Programs.{blank, pick-le, get_or-same, get_d_set, take_more}
+use Rattle.processes.specs.declared.own.Own.{Own}
+use Rattle.processes.specs.declared.tally.Tally.{Tally}
+use Rattle.processes.specs.Below.{Below}
+use Rattle.processes.specs.Own.{blank_tally, noted, Tallied, OwnOf, one_at}
+use Rattle.short.specs.Low.{most}
+use Rattle.short.proofs.Programs.{get_or-same, get_d_set}
 use Rattle.groups.proofs.Grouping.{get_d_map, length-up_from, get_or-up_from}
 
 -- ---- a group goes by the number of a node
@@ -71,16 +75,21 @@ within-append stands gs g b (x ∷ p) q =
     ∙ sym (append_assoc (pick (eqb (get_or gs b 0) g) (stands x) []) (within stands gs g (suc b) p) _)
     ∙ ap (λ (k : ℕ). pick (eqb (get_or gs b 0) g) (stands x) [] ++ within stands gs g (suc b) p ++ within stands gs g k q) (suc-add b (length p) ∙ sym (add-suc b (length p)))
 
-module _ (stands : Block → List ℕ) (gs : List ℕ) (blocks : List Block) where
-  within_more : (g i : ℕ) → i < length blocks
-      → within stands gs g 0 (take (i + 1) blocks) ≡ within stands gs g 0 (take i blocks) ++ pick (eqb (get_or gs i 0) g) (stands (get_or blocks i blank)) []
-  unfolding within
-  within_more g i h =
-      rw (take_more blocks i blank h)
-      (within-append stands gs g 0 (take i blocks) (get_or blocks i blank ∷ [])
-      ∙ ap (λ (l : List ℕ). within stands gs g 0 (take i blocks) ++ l) (append-nil _)
-      ∙ ap (λ (k : ℕ). within stands gs g 0 (take i blocks) ++ pick (eqb (get_or gs k 0) g) (stands (get_or blocks i blank)) [])
-      (zero-add (length (take i blocks)) ∙ length-take-le i blocks (omega arith)))
+-- a block that stands in at most eight labels of a kind adds no more to a group
+module _ (stands : Block → List ℕ) (short : (b : Block) → length (stands b) ≤ 8) (gs : List ℕ) (g : ℕ) where
+  within-le : (b : ℕ) (program : List Block) → length (within stands gs g b program) ≤ 8 * length program
+  unfolding within pick
+  within-le b [] = omega arith
+  within-le b (x ∷ program) =
+      let e : length (pick (eqb (get_or gs b 0) g) (stands x) []) ≤ 8 = some-or-none (eqb (get_or gs b 0) g) in
+      omega (arith, e, length-append (pick (eqb (get_or gs b 0) g) (stands x) []) (within stands gs g (suc b) program), within-le (suc b) program)
+    where
+      some-or-none : (t : Bool) → length (pick t (stands x) []) ≤ 8
+      some-or-none true = short x
+      some-or-none false = omega arith
+
+  pub tallied-room : (program : List Block) (t : Tally) → length program ≤ 128 → Tallied stands gs program t → get_or t.counts g 0 ≤ most
+  tallied-room program t few h = omega (arith, h.many g, within-le 0 program)
 
 -- what a group's tally becomes where its list gets more
 module _ (l m : List ℕ) (count first : ℕ) (t : Bool) (c : count ≡ length l) (f : first ≡ get_or l 0 0) where
@@ -111,64 +120,65 @@ pick_at g x f z = go (eqb g x) refl
     go true e = ap f (eqb-true g x e)
     go false e = refl
 
--- the tallies of the first i blocks
-pub record Tallying (stands : Block → List ℕ) (gs : List ℕ) (blocks : List Block) (i : ℕ) (counts firsts : List ℕ) : Type 0 where
-  pub tallied : Tallied stands gs (take i blocks) counts firsts
-  pub all_counts : length counts ≡ all_nodes
-  pub all_firsts : length firsts ≡ all_nodes
-  pub low : Low (8 * i) counts
+-- ---- tallies
+-- the first label noted stays
+module _ (t s : Tally) (g : ℕ) (labels l : List ℕ) (first : ℕ) where
+  abbrev now : ℕ → Tally
+  now v = record { counts = t.counts; firsts = set t.firsts g v }
 
-module _ (stands : Block → List ℕ) (gs : List ℕ) (blocks : List Block) where
-  pub tallying_none : Tallying stands gs blocks 0 (replicate all_nodes 0) (replicate all_nodes 0)
+  abbrev more : Tally → List ℕ → Tally
+  more s l = record { counts = set s.counts g (get_or s.counts g 0 + length l); firsts = s.firsts }
+
+  pub noted-first : get_or t.counts g 0 ≡ 0 → first ≡ get_or labels 0 0 → s ≡ now first → l ≡ labels → more s l ≡ noted t g labels
+  noted-first e f h k =
+      rw (h, k, f)
+      (ap (λ (v : ℕ). more (now v) labels) (sym (pick_true (eqb (get_or t.counts g 0) 0) (get_or labels 0 0) (get_or t.firsts g 0) (eq-eqb _ _ e))))
+
+  pub noted-later : (get_or t.counts g 0 ≡ 0 → ⊥) → s ≡ t → l ≡ labels → more s l ≡ noted t g labels
+  noted-later n h k =
+      rw (h, k)
+      (ap (λ (x : List ℕ). more (record { counts = t.counts; firsts = x }) labels)
+      (sym
+      (ap (set t.firsts g) (pick-false (eqb (get_or t.counts g 0) 0) (get_or labels 0 0) (get_or t.firsts g 0) (ne_eqb _ _ n)) ∙ set-get_or t.firsts g 0)))
+
+pub tallied-none : (stands : Block → List ℕ) (gs : List ℕ) → Tallied stands gs [] blank_tally
+unfolding within
+tallied-none stands gs =
+    record { all_counts = refl; all_firsts = refl; many = λ g. get_or-same all_nodes g 0; first = λ g. get_or-same all_nodes g 0 }
+
+module _ (stands : Block → List ℕ) (gs : List ℕ) (program : List Block) (t : Tally) (h : Tallied stands gs program t) (b : Block) (g : ℕ)
+    (e : g ≡ get_or gs (length program) 0) (s : g < all_nodes) where
+  grown : (x : ℕ) → within stands gs x 0 (program ++ b ∷ []) ≡ within stands gs x 0 program ++ pick (eqb g x) (stands b) []
   unfolding within
-  tallying_none =
+  grown x =
+      within-append stands gs x 0 program (b ∷ [])
+      ∙ ap (λ (l : List ℕ). within stands gs x 0 program ++ l) (append-nil _)
+      ∙ ap (λ (k : ℕ). within stands gs x 0 program ++ pick (eqb (get_or gs k 0) x) (stands b) []) (zero-add (length program))
+      ∙ ap (λ (k : ℕ). within stands gs x 0 program ++ pick (eqb k x) (stands b) []) (sym e)
+
+  many-after : (x : ℕ) → get_or (noted t g (stands b)).counts x 0 ≡ length (within stands gs x 0 (program ++ b ∷ []))
+  many-after x =
+      get_d_set t.counts g x (get_or t.counts g 0 + length (stands b)) 0 (rw h.all_counts s)
+      ∙ pick_at g x (λ y. get_or t.counts y 0 + length (stands b)) (get_or t.counts x 0)
+      ∙ many_more (within stands gs x 0 program) (stands b) (get_or t.counts x 0) (get_or t.firsts x 0) (eqb g x) (h.many x) (h.first x)
+      ∙ ap length (sym (grown x))
+
+  first-after : (x : ℕ) → get_or (noted t g (stands b)).firsts x 0 ≡ get_or (within stands gs x 0 (program ++ b ∷ [])) 0 0
+  first-after x =
+      get_d_set t.firsts g x _ 0 (rw h.all_firsts s)
+      ∙ pick_at g x (λ y. pick (eqb (get_or t.counts y 0) 0) (get_or (stands b) 0 0) (get_or t.firsts y 0)) (get_or t.firsts x 0)
+      ∙ first_more (within stands gs x 0 program) (stands b) (get_or t.counts x 0) (get_or t.firsts x 0) (eqb g x) (h.many x) (h.first x)
+      ∙ ap (λ (l : List ℕ). get_or l 0 0) (sym (grown x))
+
+  pub tallied-more : (labels : List ℕ) (u : Tally) → labels ≡ stands b → u ≡ noted t g labels → Tallied stands gs (program ++ b ∷ []) u
+  tallied-more labels u l n =
+      rw (n, l)
       record {
-        tallied = record { many = λ g. get_or-same all_nodes g 0; first = λ g. get_or-same all_nodes g 0 };
-        all_counts = refl;
-        all_firsts = refl;
-        low = λ x. omega (arith, get_or-same {A = ℕ} all_nodes x 0);
+        all_counts = length-set t.counts g _ ∙ h.all_counts;
+        all_firsts = length-set t.firsts g _ ∙ h.all_firsts;
+        many = many-after;
+        first = first-after;
       }
-
-  pub tallying_room : (i : ℕ) (counts firsts : List ℕ) → Tallying stands gs blocks i counts firsts → i ≤ 128 → Low most counts
-  tallying_room i counts firsts t h x = omega (arith, t.low x)
-
-  module _ (i : ℕ) (counts firsts : List ℕ) (f : Few) (t : Tallying stands gs blocks i counts firsts) (h : i < length blocks)
-      (l : Lists f (stands (get_or blocks i blank))) (g : ℕ) (e : g ≡ get_or gs i 0) (s : g < all_nodes) where
-    size : f.count ≡ length (stands (get_or blocks i blank))
-    size = sym (ap length (sym l.same) ∙ length-take-le f.count f.labels (rw l.long l.small))
-
-    grown : (x : ℕ) → within stands gs x 0 (take (i + 1) blocks) ≡ within stands gs x 0 (take i blocks) ++ pick (eqb g x) (stands (get_or blocks i blank)) []
-    grown x = within_more stands gs blocks x i h ∙ rw e
-
-    many-after : (x : ℕ) → get_or (noted_counts counts g f) x 0 ≡ length (within stands gs x 0 (take (i + 1) blocks))
-    many-after x =
-        get_d_set counts g x (get_or counts g 0 + f.count) 0 (rw t.all_counts s)
-        ∙ pick_at g x (λ y. get_or counts y 0 + f.count) (get_or counts x 0)
-        ∙ rw (size, grown x) (many_more (within stands gs x 0 (take i blocks)) (stands (get_or blocks i blank)) (get_or counts x 0) (get_or firsts x 0) (eqb g x) (t.tallied.many x) (t.tallied.first x))
-
-    first-after : (x : ℕ) → get_or (noted_firsts counts firsts g f) x 0 ≡ get_or (within stands gs x 0 (take (i + 1) blocks)) 0 0
-    first-after x =
-        get_d_set firsts g x _ 0 (rw t.all_firsts s)
-        ∙ pick_at g x (λ y. pick (eqb (get_or counts y 0) 0) (get_or (few f) 0 0) (get_or firsts y 0)) (get_or firsts x 0)
-        ∙ rw (grown x, l.same) (first_more (within stands gs x 0 (take i blocks)) (stands (get_or blocks i blank)) (get_or counts x 0) (get_or firsts x 0) (eqb g x) (t.tallied.many x) (t.tallied.first x))
-
-    low-after : Low (8 * (i + 1)) (noted_counts counts g f)
-    low-after x =
-        rw (get_d_set counts g x (get_or counts g 0 + f.count) 0 (rw t.all_counts s))
-        (pick-le (eqb g x) (get_or counts g 0 + f.count) (get_or counts x 0) (8 * (i + 1)) (omega (arith, t.low g, l.small)) (omega (arith, t.low x)))
-
-    pub tallying_more : (c d : List ℕ) → c ≡ (noted_counts counts g f) → d ≡ (noted_firsts counts firsts g f) → Tallying stands gs blocks (i + 1) c d
-    tallying_more c d p q =
-        rw (p, q)
-        record {
-          tallied = record { many = many-after; first = first-after };
-          all_counts = length-set counts g _ ∙ t.all_counts;
-          all_firsts = length-set firsts g _ ∙ t.all_firsts;
-          low = low-after;
-        }
-
-  pub tallying_all : (i n : ℕ) (counts firsts : List ℕ) → i ≡ n → Tallying stands gs blocks i counts firsts → Tallied stands gs (take n blocks) counts firsts
-  tallying_all i n counts firsts e t = subst (λ (k : ℕ). Tallied stands gs (take k blocks) counts firsts) e t.tallied
 
 -- ---- code 11 and the labels of process blocks
 one-label_is : (l m : List ℕ) → (eqb (length l) 1 && (eqb (length m) 1 && eqb (get_or l 0 0) (get_or m 0 0))) ≡ one_label l m
@@ -178,43 +188,42 @@ one-label_is (x ∷ []) (y ∷ []) = refl
 one-label_is (x ∷ []) (y ∷ z ∷ m) = rw (ne_eqb (suc (suc (length m))) 1 (λ q. omega arith))
 one-label_is (x ∷ k ∷ l) m = rw (ne_eqb (suc (suc (length l))) 1 (λ q. omega arith))
 
-whole : (program : List Block) (o : Own) → OwnOf (groups program) program o → (b : ℕ) → not (one_at o (get_or (groups program) b 0)) ≡ bad11 program b
-unfolding bad11 own_begins own_ends
-whole program o h b =
-    let g = get_or (groups program) b 0 in
-    rw (h.begins.many g, h.ends.many g, h.begins.first g, h.ends.first g) (ap not (one-label_is (own_begins program b) (own_ends program b)))
-
-opened : (program : List Block) (o : Own) → OwnOf (groups program) program o → (b : ℕ) → get_or o.opening (get_or (groups program) b 0) 0 ≡ home program b
-unfolding home own_begins
-opened program o h b = h.begins.first (get_or (groups program) b 0)
-
 module _ (program : List Block) (gs : List ℕ) (o : Own) (e : gs ≡ groups program) (h : OwnOf gs program o) where
   pub bad11-is : (b : ℕ) → not (one_at o (get_or gs b 0)) ≡ bad11 program b
-  bad11-is b = ap (λ (x : List ℕ). not (one_at o (get_or x b 0))) e ∙ whole program o (subst (λ (x : List ℕ). OwnOf x program o) e h) b
+  unfolding bad11 own_begins own_ends
+  bad11-is b =
+      let g = get_or gs b 0 in
+      rw (h.begins.many g, h.ends.many g, h.begins.first g, h.ends.first g, e) (ap not (one-label_is (own_begins program b) (own_ends program b)))
 
-  pub home-is : (b : ℕ) → get_or o.opening (get_or gs b 0) 0 ≡ home program b
-  home-is b = ap (λ (x : List ℕ). get_or o.opening (get_or x b 0) 0) e ∙ opened program o (subst (λ (x : List ℕ). OwnOf x program o) e h) b
+  pub home-is : (b : ℕ) → get_or o.begins.firsts (get_or gs b 0) 0 ≡ home program b
+  unfolding home own_begins
+  home-is b = h.begins.first (get_or gs b 0) ∙ ap (λ (x : List ℕ). get_or (within (λ c. begin_labels c.entry) x (get_or x b 0) 0 program) 0 0) e
 
-pub one-at : (o : Own) (g x : ℕ) (r t : Bool) → g ≡ x → r ≡ one_at o g → not r ≡ t → not (one_at o x) ≡ t
-one-at o g x r t h e q = ap (λ (k : ℕ). not (one_at o k)) (sym h) ∙ ap not (sym e) ∙ q
+  pub homes-are : (homes : List ℕ) (n : ℕ) → n ≤ length homes → ((b : ℕ) → b < n → get_or homes b 0 ≡ get_or o.begins.firsts (get_or gs b 0) 0)
+      → take n homes ≡ map (home program) (up_from 0 n)
+  homes-are homes n long each =
+      let all : length (take n homes) ≡ n = length-take-le n homes long in
+      ext_get_or 0 (take n homes) (map (home program) (up_from 0 n)) (all ∙ sym (length-map (up_from 0 n) (home program) ∙ length-up_from 0 n))
+      (λ b lt.
+      let l : b < n = omega arith in
+      get_or-take n homes b 0 l ∙ each b l ∙ home-is b
+      ∙ sym (get_d_map (home program) (up_from 0 n) b 0 (rw (length-up_from 0 n) l) ∙ ap (home program) (get_or-up_from 0 n b l ∙ zero-add b)))
 
--- the lowest block, and the list of labels
-pub lowest-same : (p q : ℕ → Bool) (n : ℕ) → ((k : ℕ) → p k ≡ q k) → lowest p n ≡ lowest q n
-lowest-same p q n h = ap (λ (f : ℕ → Bool). lowest f n) (fun_ext h)
+-- where the calls of a closure that stays as it is are h, what they made is h at each index
+pub made-each :
+    {F : Type 0} (g : Mut F (ℕ × Unit {0}) ℕ) (f : F) (h : ℕ → ℕ) → ((x y : ℕ) (q : F) → Called g f (x, tt) y q → (q ≡ f) × (y ≡ h x)) →
+    (ys : List ℕ) (n i : ℕ) (p : F) → p ≡ f → IsFromFnResultFrom g p ys i n → (k j : ℕ) → k < n → i + k ≡ j → get_or ys j 0 ≡ h j
+made-each g f h one ys zero i p e r k j lt at = absurd (omega arith)
+made-each {F} g f h one ys (suc n) i p e r k j lt at =
+    let made = one i r.1 r.0 (subst (λ (x : F). Called g x (i, tt) r.1 r.0) e r.3) in
+    go k lt at made (λ k' lt' at'. made-each g f h one ys n (i + 1) r.0 made.0 r.4 k' j lt' at') (r.2.1 0)
+  where
+    go :
+        (k : ℕ) → k < suc n → i + k ≡ j → {q : F} → (q ≡ f) × (r.1 ≡ h i) → ((k' : ℕ) → k' < n → i + 1 + k' ≡ j → get_or ys j 0 ≡ h j) →
+        get_or ys i 0 ≡ r.1 → get_or ys j 0 ≡ h j
+    go zero lt at made rest here = let e : i ≡ j = omega arith in subst (λ (x : ℕ). get_or ys x 0 ≡ h x) e (here ∙ made.1)
+    go (suc k) lt at made rest here = rest k (omega arith) (omega arith)
 
-pub map_same : (f g : ℕ → ℕ) (l : List ℕ) → ((k : ℕ) → f k ≡ g k) → map f l ≡ map g l
-map_same f g l h = ap (λ (f : ℕ → ℕ). map f l) (fun_ext h)
-
-up_from_more : (a n : ℕ) → up_from a (suc n) ≡ up_from a n ++ (a + n) ∷ []
-unfolding up_from
-up_from_more a zero = ap (λ (k : ℕ). k ∷ []) (sym (add-zero a))
-up_from_more a (suc n) = ap (λ (l : List ℕ). a ∷ l) (up_from_more (suc a) n ∙ ap (λ (k : ℕ). up_from (suc a) n ++ k ∷ []) (suc-add a n ∙ sym (add-suc a n)))
-
-pub listed_more : (f : ℕ → ℕ) (l : List ℕ) (i v : ℕ) → i < length l → take i l ≡ map f (up_from 0 i) → v ≡ f i → take (i + 1) (set l i v) ≡ map f (up_from 0 (i + 1))
-listed_more f l i v h e q =
-    rw add-one
-    (take-suc-set l i v h
-    ∙ ap (λ (k : List ℕ). k ++ v ∷ []) e
-    ∙ ap (λ (k : ℕ). map f (up_from 0 i) ++ k ∷ []) (q ∙ ap f (sym (zero-add i)))
-    ∙ sym (map-append f (up_from 0 i) ((0 + i) ∷ []))
-    ∙ ap (map f) (sym (up_from_more 0 i)))
+-- the same test finds the same
+pub found-same : (p q : ℕ → Bool) (n : ℕ) → ((k : ℕ) → p k ≡ q k) → found p n ≡ found q n
+found-same p q n h = ap (λ (f : ℕ → Bool). found f n) (fun_ext h)

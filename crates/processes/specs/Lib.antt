@@ -1,2 +1,3 @@
 -- Definitions that the contracts of this crate cite.
+pub mod Below
 pub mod Own

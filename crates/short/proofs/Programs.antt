@@ -15,7 +15,7 @@ use Rattle.std.proofs.lemmas.List.Recursion.{same_from_clauses}
 use lib.Seq.{get_or-set_same, get_or-set_other, take-suc, length-take-le, get_or-take}
 use borrow.Author.Tests.{eqb-true, eqb-false}
 use Rattle.rules.specs.Base.{pick, some_of, each_of, some_below}
-use Rattle.rules.specs.Labels.{no_block, block_of}
+use Rattle.rules.specs.Labels.{no_block, block_of, entry_labels, exit_labels, begin_labels, end_labels}
 use Rattle.rules.specs.declared.Block.{Block}
 use Rattle.rules.specs.declared.Entry.{Entry}
 use Rattle.rules.specs.declared.Exit.{Exit}
@@ -139,3 +139,24 @@ some_below-any p (suc n) =
     (ap (list_any p) (range_more 0 n)
     ∙ list_any-append p (range_with_len 0 n) ((0 + n) ∷ [])
     ∙ rw (or-false (p (0 + n)), zero-add n, some_below-any p n) refl)
+
+-- no part of a block has over eight labels
+pub entry-short : (e : Entry) → length (entry_labels e) ≤ 8
+entry-short (Entry.From l) = omega arith
+entry-short (Entry.Either l m e) = omega arith
+entry-short (Entry.Begin l) = omega arith
+
+pub exit-short : (e : Exit) → length (exit_labels e) ≤ 8
+exit-short (Exit.To l) = omega arith
+exit-short (Exit.Either e l m) = omega arith
+exit-short (Exit.End l) = omega arith
+
+pub begin-short : (e : Entry) → length (begin_labels e) ≤ 8
+begin-short (Entry.From l) = omega arith
+begin-short (Entry.Either l m e) = omega arith
+begin-short (Entry.Begin l) = omega arith
+
+pub end-short : (e : Exit) → length (end_labels e) ≤ 8
+end-short (Exit.To l) = omega arith
+end-short (Exit.Either e l m) = omega arith
+end-short (Exit.End l) = omega arith

@@ -1,23 +1,15 @@
 -- The tallies of the groups are rules' begins and ends.
-use Rattle.std.proofs.Common.{◌∙◌}
-use Rattle.rules.specs.Base.{up_from}
-use Rattle.processes.proofs.Owning.{below-is, bad11-is, home-is, lowest-same, map_same}
+use Rattle.std.proofs.Common.{length, arith, ◌∙◌, rules}
+use Rattle.processes.proofs.Owning.{bad11-is, homes-are, found-same}
 use Rattle.processes.proofs.process_blocks.Goals as goal
-
-pub own_of-own-requires : goal.own_of-own-requires
-own_of-own-requires c = (c.requires, below-is _ _ c.groups_of-groups.ensures)
-
-pub homes_of-homes-requires : goal.homes_of-homes-requires
-homes_of-homes-requires c = (c.requires, below-is _ _ c.groups_of-groups.ensures)
-
-pub first_bad-bad-requires : goal.first_bad-bad-requires
-first_bad-bad-requires c = (c.requires, below-is _ _ c.groups_of-groups.ensures)
 
 pub returns : goal.returns
 returns c =
-    let o = c.own_of-own in
-    let g = c.groups_of-groups in
+    let program = c.args.blocks.now in
+    let n = length program in
+    let g = c.of-groups in
+    let o = c.of-own in
     record {
-      bad = c.first_bad-bad.ensures ∙ lowest-same _ _ _ (bad11-is _ g.result o.result g.ensures o.ensures);
-      homes = c.homes_of-homes.ensures ∙ map_same _ _ (up_from 0 c.args.n) (home-is _ g.result o.result g.ensures o.ensures);
+      bad = c.first_bad.ensures ∙ found-same _ _ n (bad11-is program g.result.numbers o.result g.ensures o.ensures);
+      homes = homes-are program g.result.numbers o.result g.ensures o.ensures c.homes.result n (search rules) (λ b lt. c.homes.ensures b (omega arith));
     }

@@ -1,6 +1,7 @@
 -- Each of the four tables has room for a block's labels, and counts them.
 use Rattle.std.proofs.Common.{◌∙◌}
-use Rattle.labels.proofs.Counting.{counted-room, counted-more, entry-short, exit-short, begin-short, end-short}
+use Rattle.short.proofs.Programs.{entry-short, exit-short, begin-short, end-short}
+use Rattle.labels.proofs.Counting.{counted-room, counted-more}
 use Rattle.labels.proofs.counts.Counts.add.Goals as goal
 
 pub raise-requires : goal.raise-requires
