@@ -8,7 +8,7 @@ ghost use Rattle.image.specs.Shown.{shown, maybe};
 use crate::{Cursor, Fault};
 use rules::{Code, Expression, Operator};
 
-// (`TryFrom<u8>` for Operator could only stand in the crate of the type.)
+// Stays: an impl of `TryFrom<u8>` for Operator may only stand in the crate of the type.
 #[tactic(auto, unfolding(rules::specs::Base::pick, rules::specs::Format::operator_of))]
 fn operator_of(kind: u8) -> Option<Operator>
     ensures { maybe result ≡ operator_of kind }
