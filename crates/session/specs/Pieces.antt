@@ -1,12 +1,12 @@
 -- The pieces of rules' `session`: what is printed at the beginning and at each command, whether more follows, and the words left.
-use Rattle.std.specs.Prelude.{◌≡◌, Bool, true, false, ◌&&◌, ◌||◌, List, [], ℕ, ◌*◌, length, take, eqb}
-use Rattle.io.specs.Counts.{IsPrefixLen}
+use Rattle.std.specs.Prelude.{◌≡◌, Bool, true, false, ◌&&◌, ◌||◌, List, [], ℕ, ◌*◌, length, eqb}
 use Rattle.rules.specs.Base.{pick, zeros}
 use Rattle.rules.specs.Format.{word_at}
 use Rattle.rules.specs.Machine.{machine_words}
 use Rattle.rules.specs.Session.{refused_line, unknown_line, step_line}
 use Rattle.rules.specs.Words.{Outcome, start_bytes, step, words_of}
 use Rattle.session.specs.declared.Printed.{Printed}
+use Rattle.session.specs.Put.{written}
 
 pub record Piece : Type 0 where
   pub text : List ℕ
@@ -40,9 +40,8 @@ unfoldable pub turned : List ℕ → List ℕ → ℕ → List ℕ → Piece
 turned image words kind body =
     pick ((eqb kind 1 || eqb kind 2) && eqb (length body) 4) (asked image words (pick (eqb kind 1) 0 1) body) (unknown words)
 
--- a function that puts a piece's text at the front of a line, and leaves its words
-pub record Shows (piece : Piece) (printed : Printed) (words line : List ℕ) : Type 0 where
-  pub text_is : take printed.length line ≡ piece.text
-  pub counts : IsPrefixLen printed.length line
+-- what is printed is a piece, and its words are left
+pub record Shows (piece : Piece) (printed : Printed) (words : List ℕ) : Type 0 where
+  pub text_is : written printed.line ≡ piece.text
   pub more_is : printed.more ≡ piece.more
   pub words_are : words ≡ piece.words

@@ -1,81 +1,78 @@
-// A line of text in a lent slice: each function puts its text in from `at` on and answers the place after it.
-ghost use Rattle.std.specs.Prelude.{[], ◌∷◌, ◌+◌, ◌≤◌, ◌<◌, ◌≡◌, length, eqb};
-ghost use Rattle.rules.specs.Base.{pick};
-ghost use Rattle.rules.specs.Session.{space, decimal as Session·decimal, hexadecimal as Session·hexadecimal};
-ghost use Rattle.session.specs.Put.{Put};
+// A line of text while it is written.
+ghost use Rattle.std.specs.Prelude.{◌≤◌};
 
-pub fn wide(x: u32) -> u64
-    ensures { (result ≡ x) × (result < 4294967296) }
-{
-    x as u64
+// The first `end` bytes of 64, of which no line takes more than 44.
+#[derive(Drop)]
+pub struct Line {
+    text: [u8; 64],
+    end: usize,
+    pub ghost within: { end ≤ 64 },
 }
 
-pub fn put(line: &mut [u8], at: usize, byte: u8) -> usize
-    requires { at < length line.old }
-    ensures { Put line.old at 1 (byte ∷ []) line.new result }
-{
-    line[at] = byte;
-    at + 1
-}
+impl Line {
+    ghost use Rattle.std.specs.Prelude.{[], ◌∷◌, ◌+◌, ◌≤◌, ◌<◌, ◌≡◌, length};
+    ghost use Rattle.rules.specs.Session.{space, decimal as Session·decimal, hexadecimal as Session·hexadecimal};
+    ghost use Rattle.session.specs.Put.{written, Put};
 
-pub fn put_all(line: &mut [u8], at: usize, text: &[u8]) -> usize
-    requires { at + length text.now ≤ length line.old }
-    ensures { Put line.old at (length text.now) text.now line.new result }
-{
-    let mut i = 0;
-    while i < text.len() {
-        line[at + i] = text[i];
-        i += 1;
+    pub fn empty() -> Line
+        ensures { (written result ≡ []) × (result.end ≡ 0) }
+    {
+        Line {
+            text: [0; 64],
+            end: 0,
+        }
     }
-    at + i
-}
 
-// A number in decimal, without leading zeros.
-pub fn decimal(line: &mut [u8], at: usize, n: u32) -> usize
-    requires { at + 10 ≤ length line.old }
-    ensures { Put line.old at 10 (Session·decimal n) line.new result }
-{
-    let mut digits = [0u8; 20];
-    let k = io::decimal(wide(n), &mut digits);
-    put_all(line, at, &digits[..k])
-}
-
-// A number in eight hexadecimal digits.
-pub fn hexadecimal(line: &mut [u8], at: usize, n: u32) -> usize
-    requires { at + 8 ≤ length line.old }
-    ensures { Put line.old at 8 (Session·hexadecimal n) line.new result }
-{
-    let mut digits = [0u8; 16];
-    let k = io::hex(wide(n), 8, &mut digits);
-    put_all(line, at, &digits[..k])
-}
-
-// A space and a number in decimal.
-pub fn field(line: &mut [u8], at: usize, n: u32) -> usize
-    requires { at + 11 ≤ length line.old }
-    ensures { Put line.old at 11 (space ∷ Session·decimal n) line.new result }
-{
-    let next = put(line, at, b' ');
-    decimal(line, next, n)
-}
-
-// F or B.
-#[tactic(auto, unfolding(rules::specs::Base::pick))]
-pub fn letter(direction: u32) -> u8
-    ensures { result ≡ pick (eqb direction 0) 0x46 0x42 }
-{
-    if direction == 0 {
-        return b'F';
+    // What is written.
+    pub fn text(&self) -> &[u8]
+        ensures { result.now ≡ written self.now }
+    {
+        &self.text[..self.end]
     }
-    b'B'
-}
 
-// F or B and the identifier of the process.
-pub fn who(line: &mut [u8], direction: u32, process: u32) -> usize
-    requires { 10 ≤ length line.old }
-    ensures { Put line.old 0 10 (pick (eqb direction 0) 0x46 0x42 ∷ space ∷ Session·hexadecimal process) line.new result }
-{
-    let first = put(line, 0, letter(direction));
-    let second = put(line, first, b' ');
-    hexadecimal(line, second, process)
+    pub fn put(&mut self, byte: u8)
+        requires { self.old.end < 64 }
+        ensures { Put self.old 1 (byte ∷ []) self.new }
+    {
+        self.text[self.end] = byte;
+        self.end += 1;
+    }
+
+    pub fn put_all(&mut self, text: &[u8])
+        requires { self.old.end + length text.now ≤ 64 }
+        ensures { Put self.old (length text.now) text.now self.new }
+    {
+        let end = self.end + text.len();
+        self.text[self.end..end].copy_from_slice(text);
+        self.end = end;
+    }
+
+    // A number in decimal, without leading zeros.
+    pub fn decimal(&mut self, n: u32)
+        requires { self.old.end + 10 ≤ 64 }
+        ensures { Put self.old 10 (Session·decimal n) self.new }
+    {
+        let mut digits = [0u8; 20];
+        let k = io::decimal(u64::from(n), &mut digits);
+        self.put_all(&digits[..k]);
+    }
+
+    // A number in eight hexadecimal digits.
+    pub fn hexadecimal(&mut self, n: u32)
+        requires { self.old.end + 8 ≤ 64 }
+        ensures { Put self.old 8 (Session·hexadecimal n) self.new }
+    {
+        let mut digits = [0u8; 16];
+        let k = io::hex(u64::from(n), 8, &mut digits);
+        self.put_all(&digits[..k]);
+    }
+
+    // A space and a number in decimal.
+    pub fn field(&mut self, n: u32)
+        requires { self.old.end + 11 ≤ 64 }
+        ensures { Put self.old 11 (space ∷ Session·decimal n) self.new }
+    {
+        self.put(b' ');
+        self.decimal(n);
+    }
 }

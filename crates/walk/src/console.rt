@@ -26,23 +26,18 @@ fn read_file(rt: &HostRuntime, name: &str, buffer: &mut [u8]) -> usize
 fn read_body(kind: u8, body: &mut [u8]) -> usize
     ensures { IsPrefixLen result body.new }
 {
-    if kind == 1 {
-        return io::read_full(STANDARD_INPUT, body);
+    match kind {
+        1 | 2 => io::read_full(STANDARD_INPUT, body),
+        _ => 0,
     }
-    if kind == 2 {
-        return io::read_full(STANDARD_INPUT, body);
-    }
-    0
 }
 
 // Starts the machine, writes the line of a refusal, and answers whether the session goes on.
 fn begin(image: &[u8], memory: &[u8], words: &mut [u32]) -> bool
     requires { length words.old ≡ 8674 }
 {
-    let mut line = [0u8; 64];
-    let printed = session::begin(image, memory, words, &mut line);
-    let length = printed.length;
-    io::write_all(STANDARD_OUTPUT, &line[..length]);
+    let printed = session::begin(image, memory, words);
+    io::write_all(STANDARD_OUTPUT, printed.line.text());
     printed.more
 }
 
@@ -56,22 +51,18 @@ fn turn(image: &[u8], words: &mut [u32]) -> bool
     }
     let mut body = [0u8; 4];
     let n = read_body(kind[0], &mut body);
-    let mut line = [0u8; 64];
-    let printed = session::turn(image, words, kind[0], &body[..n], &mut line);
-    let length = printed.length;
-    if !io::write_all(STANDARD_OUTPUT, &line[..length]) {
-        return false;
-    }
-    printed.more
+    let printed = session::turn(image, words, kind[0], &body[..n]);
+    io::write_all(STANDARD_OUTPUT, printed.line.text()) && printed.more
 }
 
-// A proved loop has to end, and nothing says that the commands do: the turns are counted down from a number that no run uses up.
+// A proved loop has to end, and nothing says that the commands do: the turns are counted to a number that no run reaches.
 fn run(image: &[u8], words: &mut [u32])
     requires { length words.old ≡ 8674 }
 {
-    let mut turns = u64::MAX;
-    while turns > 0 && turn(image, words) {
-        turns -= 1;
+    for _ in 0..u64::MAX {
+        if !turn(image, words) {
+            break;
+        }
     }
 }
 

@@ -1,11 +1,8 @@
 -- What the step answers and leaves, and its line.
-use Rattle.std.proofs.Common.{rules}
 use Rattle.session.proofs.Ways.{answered}
 use Rattle.session.proofs.ask.Goals as goal
 
 pub returns : goal.returns
 returns c =
     let a = c.args in
-    answered a.image.now a.words.now a.body.now _ _ a.way _ _ c.step-answer.result c.word_at-process.ensures c.step-answer.ensures
-    c.step_line-length.ensures
-    (search rules)
+    answered a.image.now a.words.now a.body.now _ _ a.way _ _ c.word_at-process.ensures c.step-answer.ensures c.step_line.ensures

@@ -1,24 +1,24 @@
 -- Kind by kind.
+use Rattle.std.proofs.Common.{rules, arith}
 use Rattle.session.proofs.Ways.{cut, forward, undo, other}
 use Rattle.session.proofs.turn.Goals as goal
 
 pub returns-then-body-ne4 : goal.returns-then-body-ne4
 returns-then-body-ne4 c =
     let a = c.args in
-    cut a.image.now a.words.now a.kind a.body.now _ _ _ c.if-body-ne4.true (c.stop.ensures a.words.now)
+    cut a.image.now a.words.now a.kind a.body.now _ _ c.if-body-ne4.true (c.stop.ensures a.words.now)
 
-pub returns-then-kind-eq1 : goal.returns-then-kind-eq1
-returns-then-kind-eq1 c =
+pub returns-in-1 : goal.returns-in-1
+returns-in-1 c =
     let a = c.args in
-    forward a.image.now a.words.now a.kind a.body.now _ _ _ c.if-body-ne4.false c.if-kind-eq1.true c.ask.ensures
+    forward a.image.now a.words.now a.kind a.body.now _ _ c.if-body-ne4.false c.in-1.is c.ask.ensures
 
-pub returns-then-kind-eq2 : goal.returns-then-kind-eq2
-returns-then-kind-eq2 c =
+pub returns-in-2 : goal.returns-in-2
+returns-in-2 c =
     let a = c.args in
-    undo a.image.now a.words.now a.kind a.body.now _ _ _ c.if-body-ne4.false c.if-kind-eq1.false c.if-kind-eq2.true c.ask-then-kind-eq2.ensures
+    undo a.image.now a.words.now a.kind a.body.now _ _ c.if-body-ne4.false (λ e. omega (arith, c.in-2.is, e)) c.in-2.is c.ask-in-2.ensures
 
-pub returns : goal.returns
-returns c =
+pub returns-in_default : goal.returns-in_default
+returns-in_default c =
     let a = c.args in
-    other a.image.now a.words.now a.kind a.body.now _ _ _ c.if-body-ne4.false c.if-kind-eq1.false c.if-kind-eq2.false
-    (c.stop-2.ensures a.words.now)
+    other a.image.now a.words.now a.kind a.body.now _ _ c.if-body-ne4.false (search rules) (search rules) (c.stop-in_default.ensures a.words.now)
