@@ -1,16 +1,19 @@
 -- What a table of calls has of a program.
-use Rattle.std.specs.Prelude.{ℕ, ◌*◌, ◌≤◌, ◌≡◌, List, map, get_or}
+use Rattle.std.specs.Prelude.{ℕ, ◌*◌, ◌≡◌, List, map, length}
 use Rattle.rules.specs.Format.{most_blocks}
 use Rattle.rules.specs.Labels.{called_by}
 use Rattle.rules.specs.declared.Block.{Block}
 use Rattle.laws.specs.CallTable.{calls_from}
-use Rattle.called.specs.declared.CallTable.{CallTable}
+use Rattle.calls.specs.Table.{Tabled}
+use Rattle.calls.specs.declared.table.Calls.{Calls}
 
 -- each block has eight places
 abbrev pub places : ℕ
 places = 8 * most_blocks
 
--- the labels that each of its n blocks calls, and no count over eight
-pub record CallsOf (program : List Block) (n : ℕ) (t : CallTable) : Type 0 where
-  pub calls : calls_from t.counts t.names n ≡ map (λ b. called_by b.instruction) program
-  pub few : (b : ℕ) → get_or t.counts b 0 ≤ 8
+-- the labels that each of its blocks calls, beside the labels of their process blocks
+pub record CallsOf (program : List Block) (own : List ℕ) (c : Calls) : Type 0 where
+  pub homes : c.homes ≡ own
+  pub count : c.count ≡ length program
+  pub calls : calls_from c.counts c.names c.count ≡ map (λ b. called_by b.instruction) program
+  pub tabled : Tabled c

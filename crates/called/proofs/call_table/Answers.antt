@@ -1,29 +1,29 @@
 -- The calls of one block more are stored, and those of all blocks at the end.
-use Rattle.std.proofs.Common.{◌≡◌, arith, rules}
-use Rattle.called.proofs.Tabling.{tabled_none, tabled_more, tabled_all}
+use Rattle.std.proofs.Common.{◌≡◌, ◌≤◌, arith, refl, ◌∙◌, ap, length, map, length-take}
+use Rattle.std.proofs.Math.Seq.{take-length}
+use Rattle.rules.specs.Labels.{called_by}
+use Rattle.called.proofs.Tabling.{listed-none, listed-more, listed-all}
 use Rattle.called.proofs.call_table.Goals as goal
 
-pub loop-i-init : goal.loop-i-init
-loop-i-init c = record { within = omega arith; size = search rules; tabled = tabled_none _ }
+pub loop-b-init : goal.loop-b-init
+loop-b-init c = listed-none _
 
-pub byte-count-requires : goal.byte-count-requires
-byte-count-requires c = c.of_call-f.ensures.small
-
-pub store-requires : goal.store-requires
-store-requires c = (c.loop-i.invariant.tabled.all_names, omega arith)
-
-pub loop-i-preserved : goal.loop-i-preserved
-loop-i-preserved c =
-    let o = c.of_call-f in
-    let p = c.loop-i in
-    record {
-      within = omega arith;
-      size = p.invariant.size;
-      tabled = tabled_more _ p.i _ _ _ o.result _ (omega arith) p.invariant.tabled o.ensures c.byte-count.ensures c.store.ensures;
-    }
+pub loop-b-preserved : goal.loop-b-preserved
+loop-b-preserved c =
+    let p = c.loop-b in
+    let f = c.of_call-called.result in
+    let short : length c.labels-labels.result.now ≤ 8 = omega (arith, f.within, ap length c.labels-labels.ensures, length-take f.count f.labels) in
+    listed-more _ p.b _ _ _ _ _ (omega arith) p.invariant (c.labels-labels.ensures ∙ c.of_call-called.ensures) refl short c.store.ensures
 
 pub returns : goal.returns
 returns c =
-    let p = c.loop-i in
-    let e : p.i ≡ c.args.n = omega arith in
-    record { calls = tabled_all _ _ _ _ (omega arith) (rw e at p.invariant.tabled.each); few = p.invariant.tabled.few }
+    let p = c.loop-b in
+    let blocks = c.args.blocks.now in
+    let n = length blocks in
+    let e : p.b ≡ n = omega arith in
+    record {
+      homes = refl;
+      count = refl;
+      calls = listed-all blocks _ _ n (omega arith) (rw e at p.invariant.each) ∙ ap (map (λ b. called_by b.instruction)) (take-length blocks);
+      tabled = record { few = c.requires; few_names = λ b _. p.invariant.few b };
+    }

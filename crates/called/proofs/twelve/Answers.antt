@@ -1,35 +1,18 @@
--- The block found is the lowest that is refused.
-use Rattle.std.proofs.Common.{◌≡◌, rules, true, false, length, take, get_or}
-use Rattle.rules.specs.Labels.{bad12}
-use Rattle.called.proofs.Tabling.{bad12-is}
-use Rattle.short.proofs.Programs.{blank}
-use Rattle.short.proofs.Searching.{passed_none, passed-more, passed-found, passed-all}
+-- The first block that is bad stands at the lowest number.
+use Rattle.std.proofs.Common.{◌∙◌, rules, get_or, eqb}
+use borrow.Author.Tests.{tests}
+use Rattle.std.specs.List.{list_any}
+use Rattle.std.proofs.lemmas.Iterator.{YieldsList-from_slice}
+use Rattle.std.proofs.lemmas.Iterator.Search.{position_from_yields_List}
+use Rattle.rules.specs.Labels.{no_block, block_of, called_by}
+use Rattle.laws.proofs.Search.{found-position}
+use Rattle.called.proofs.Tabling.{bad12-read}
 use Rattle.called.proofs.twelve.Goals as goal
-
-pub loop-i-init : goal.loop-i-init
-loop-i-init c =
-    let l : length c.args.blocks ≡ 128 = search rules in
-    passed_none bad12 c.args.blocks c.args.n l c.requires.0
-
-pub returns-then-is_bad : goal.returns-then-is_bad
-returns-then-is_bad c =
-    let p = c.loop-i in
-    let a = c.args in
-    let blocks = c.args.blocks in
-    passed-found bad12 blocks a.n p.i p.invariant c.loop-i-test.true
-    (bad12-is (take a.n blocks) a.begins.now (get_or blocks p.i blank) c.of_call.result c.is_bad.result true c.requires.1 c.of_call.ensures
-    c.is_bad.ensures c.if-is_bad.true)
-
-pub loop-i-preserved : goal.loop-i-preserved
-loop-i-preserved c =
-    let p = c.loop-i in
-    let a = c.args in
-    let blocks = c.args.blocks in
-    passed-more bad12 blocks a.n p.i p.invariant c.loop-i-test.true
-    (bad12-is (take a.n blocks) a.begins.now (get_or blocks p.i blank) c.of_call.result c.is_bad.result false c.requires.1 c.of_call.ensures
-    c.is_bad.ensures c.if-is_bad.false)
 
 pub returns : goal.returns
 returns c =
-    let p = c.loop-i in
-    passed-all bad12 c.args.blocks c.args.n p.i p.invariant c.loop-i-test.false
+    let blocks = c.args.blocks.now in
+    let begins = c.args.begins.now in
+    position_from_yields_List (λ b. list_any (λ l. eqb (get_or begins l 0) 0) (called_by b.instruction)) _ _ _ c.position.ensures.ran
+    (YieldsList-from_slice blocks cc) (λ x b q k. search (rules, tests))
+    ∙ found-position _ no_block _ blocks (λ k _. bad12-read blocks begins (block_of blocks k) c.requires)
