@@ -1,21 +1,41 @@
 -- Rows that ascend, by their places. Assumes nothing.
 use Prim.Native.Nat.{ℕ, zero, suc, ◌+◌, ◌-◌, ◌*◌, ◌<◌, ◌≤◌}
 use native.Mathlib.Omega.{arith}
-use native.Mathlib.Nat.{not-suc-le-zero, le_of_suc-le-suc}
-use mathlib.Core.Path.{◌≡◌, refl, ap}
-use mathlib.Core.Bool.{true, false, and-false}
+use native.Mathlib.Nat.{not-suc-le-zero, le_of_suc-le-suc, add-zero}
+use mathlib.Core.Path.{◌≡◌, refl, sym, ap, ◌∙◌}
+use mathlib.Core.Bool.{Bool, true, false, ◌&&◌, and-false}
 use mathlib.Core.List.{List, [], ◌∷◌}
-use mathlib.Core.Logic.{⊎_elim}
 use lib.ListN.{length, get_or}
 use lib.Dec.{ltb}
-use borrow.Author.Tests.{lt-ltb, le-ltb, ltb-true}
+use Rattle.std.specs.List.{list_all, range_with_len}
+use borrow.Author.Tests.{lt-ltb, le-ltb, ltb-true, ltb-false}
 use Rattle.rules.specs.Machine.{Process, live_count, view}
 use Rattle.rules.specs.Fits.{ascending}
-use Rattle.laws.proofs.Tests.{true_and}
-use Rattle.laws.proofs.Search.{lt-or_le}
+use Rattle.laws.proofs.Tests.{true_and, and-true, never}
 use Rattle.laws.proofs.Ascending.{ascending-head, ascending-tail}
 use Rattle.laws.proofs.View.{no_row, row-at, length-rows}
 use Rattle.laws.proofs.Lists.{each_at}
+
+-- ---- a test of each number of a range
+module _ (p : ℕ → Bool) where
+  all-range : (a n : ℕ) → list_all p (range_with_len a n) ≡ true → (k : ℕ) → k < n → p (a + k) ≡ true
+  all-range a zero h k l = absurd (not-suc-le-zero l)
+  all-range a (suc n) h zero l = rw (add-zero a) (and-true (p a) _ h).0
+  all-range a (suc n) h (suc k) l =
+      let e : a + suc k ≡ a + 1 + k = omega arith in
+      rw e (all-range (a + 1) n (and-true (p a) _ h).1 k (le_of_suc-le-suc l))
+
+  one-not : (a n : ℕ) → list_all p (range_with_len a n) ≡ false → (k : ℕ) × (k < n) × (p (a + k) ≡ false)
+  one-not a zero h = never (sym h)
+  one-not a (suc n) h = go (p a) refl h (λ e. one-not (a + 1) n e)
+    where
+      go : (b : Bool) → p a ≡ b → (b && list_all p (range_with_len (a + 1) n)) ≡ false
+          → (list_all p (range_with_len (a + 1) n) ≡ false → (k : ℕ) × (k < n) × (p (a + 1 + k) ≡ false)) → (k : ℕ) × (k < suc n) × (p (a + k) ≡ false)
+      go false e h f = (0, omega arith, rw (add-zero a) e)
+      go true e h f =
+          let r = f h in
+          let q : a + suc r.0 ≡ a + 1 + r.0 = omega arith in
+          (suc r.0, omega (arith, r.1), rw q r.2)
 
 module _ (d : Process) where
   all-rise : (rows : List Process) → ((i : ℕ) → suc i < length rows → (get_or rows i d).identifier < (get_or rows (suc i) d).identifier) → ascending rows ≡ true
@@ -44,34 +64,37 @@ module _ (w : List ℕ) where
   same_id : (i : ℕ) → i < live_count w → (get_or (view w).rows i no_row).identifier ≡ get_or w (290 + 3 * i) 0
   same_id i h = ap (λ (r : Process). r.identifier) (row-at w i h)
 
-  -- the rows before i ascend
-  abbrev pub Rises : ℕ → Type 0
-  Rises i = (j : ℕ) → suc j < i → get_or w (290 + 3 * j) 0 < get_or w (290 + 3 * suc j) 0
+  -- row i is above the row before it, as the code reads them
+  abbrev pub risen : ℕ → Bool
+  risen i = ltb (get_or w (290 + 3 * i - 3) 0) (get_or w (290 + 3 * i) 0)
 
-  pub rises-none : Rises 1
-  rises-none j h = absurd (omega arith)
+  risen-is : (j : ℕ) → risen (1 + j) ≡ ltb (get_or w (290 + 3 * j) 0) (get_or w (290 + 3 * suc j) 0)
+  risen-is j =
+      let e : 290 + 3 * (1 + j) - 3 ≡ 290 + 3 * j = omega arith in
+      let f : 290 + 3 * (1 + j) ≡ 290 + 3 * suc j = omega arith in
+      rw (e, f) refl
 
-  -- row i, and the row before it, as the code reads them
-  before-it : (i : ℕ) → 1 ≤ i → 290 + 3 * i - 3 ≡ 290 + 3 * (i - 1)
-  before-it i h = omega arith
+  pub ascends-all : list_all risen (range_with_len 1 (live_count w - 1)) ≡ ascending (view w).rows
+  ascends-all = go (list_all risen (range_with_len 1 (live_count w - 1))) refl
+    where
+      l : length (view w).rows ≡ live_count w
+      l = length-rows w
 
-  pub rises-more : (i : ℕ) → 1 ≤ i → Rises i → get_or w (290 + 3 * i - 3) 0 < get_or w (290 + 3 * i) 0 → Rises (i + 1)
-  rises-more i h f l j k =
-      ⊎_elim (λ s. f j s)
-      (λ s. let e : suc j ≡ i = omega arith in let q : j ≡ i - 1 = omega arith in rw (e, q, ← before-it i h) l)
-      (lt-or_le (suc j) i)
+      above : (j : ℕ) → suc j < live_count w → risen (1 + j) ≡ true → get_or w (290 + 3 * j) 0 < get_or w (290 + 3 * suc j) 0
+      above j s h = ltb-true _ _ (sym (risen-is j) ∙ h)
 
-  pub ascends-true : (i : ℕ) → live_count w ≤ i → Rises i → ascending (view w).rows ≡ true
-  ascends-true n k h =
-      let l = length-rows w in
-      all-rise no_row (view w).rows (λ i s. rw (same_id i (omega arith), same_id (suc i) (omega arith)) (h i (omega arith)))
-
-  pub ascends-false : (i : ℕ) → 1 ≤ i → i < live_count w → get_or w (290 + 3 * i) 0 ≤ get_or w (290 + 3 * i - 3) 0 → ascending (view w).rows ≡ false
-  ascends-false i k s h =
-      let l = length-rows w in
-      let e : suc (i - 1) ≡ i = omega arith in
-      one-falls no_row (view w).rows (i - 1) (omega arith)
-      (rw (same_id (i - 1) (omega arith), e, same_id i s, ← before-it i k) h)
+      go : (b : Bool) → list_all risen (range_with_len 1 (live_count w - 1)) ≡ b → b ≡ ascending (view w).rows
+      go true e =
+          sym
+          (all-rise no_row (view w).rows
+          (λ i s.
+          rw (same_id i (omega (arith, l)), same_id (suc i) (omega (arith, l)))
+          (above i (omega (arith, l)) (all-range risen 1 (live_count w - 1) e i (omega (arith, l))))))
+      go false e =
+          let f = one-not risen 1 (live_count w - 1) e in
+          sym
+          (one-falls no_row (view w).rows f.0 (omega (arith, l, f.1))
+          (rw (same_id f.0 (omega (arith, l, f.1)), same_id (suc f.0) (omega (arith, l, f.1))) (ltb-false _ _ (sym (risen-is f.0) ∙ f.2))))
 
   pub lower : ascending (view w).rows ≡ true → (i j : ℕ) → i < j → j < live_count w → get_or w (290 + 3 * i) 0 < get_or w (290 + 3 * j) 0
   lower h i j k s =

@@ -1,36 +1,21 @@
 -- Words that are all zero in a part of a list, and the unused words of a machine as two such parts. Assumes nothing.
-use Prim.Native.Nat.{ℕ, zero, suc, ◌+◌, ◌-◌, ◌*◌, ◌<◌, ◌≤◌}
+use Prim.Native.Nat.{ℕ, zero, suc, ◌+◌, ◌-◌, ◌*◌, ◌≤◌}
 use native.Mathlib.Omega.{arith}
-use mathlib.Core.Path.{◌≡◌, sym, ap, ◌∙◌}
-use mathlib.Core.Bool.{true, false, ◌&&◌}
+use mathlib.Core.Path.{◌≡◌, refl, sym, ap, ◌∙◌}
+use mathlib.Core.Bool.{Bool, true, false, ◌&&◌}
 use mathlib.Core.List.{List, [], ◌∷◌}
-use lib.ListN.{length, take, drop, get_or, length-drop}
-use lib.Seq.{take-nil, take_all, length-take-le, get_or-take, get_or-drop, drop-drop}
+use lib.ListN.{length, take, drop, length-drop}
+use lib.Seq.{take-nil, take_all, drop-drop}
 use lib.Dec.{eqb}
+use Rattle.std.specs.List.{list_all}
 use Rattle.rules.specs.Base.{each_of}
 use Rattle.rules.specs.Machine.{live_count, history_count}
 use Rattle.rules.specs.Fits.{unused_zero}
-use Rattle.laws.proofs.Lists.{each-false, each-true}
 
-module _ (m : List ℕ) (from to : ℕ) (h : from ≤ to) (k : to ≤ length m) where
-  part_length : length (take (to - from) (drop from m)) ≡ to - from
-  part_length =
-      let l : length (drop from m) ≡ length m - from = length-drop from m in
-      length-take-le (to - from) (drop from m) (omega arith)
-
-  part_at : (i : ℕ) → i < to - from → get_or (take (to - from) (drop from m)) i 0 ≡ get_or m (from + i) 0
-  part_at i l = get_or-take (to - from) (drop from m) i 0 l ∙ get_or-drop from m i 0
-
-  pub part-true : ((j : ℕ) → j < to → from ≤ j → eqb (get_or m j 0) 0 ≡ true) → each_of (λ w. eqb w 0) (take (to - from) (drop from m)) ≡ true
-  part-true f =
-      let l = part_length in
-      each-true (λ w. eqb w 0) 0 (take (to - from) (drop from m)) (λ i s. rw (part_at i (omega arith)) (f (from + i) (omega arith) (omega arith)))
-
-  pub part-false : (j : ℕ) → j < to → from ≤ j → eqb (get_or m j 0) 0 ≡ false → each_of (λ w. eqb w 0) (take (to - from) (drop from m)) ≡ false
-  part-false j s t e =
-      let l = part_length in
-      let q : from + (j - from) ≡ j = omega arith in
-      each-false (λ w. eqb w 0) 0 (take (to - from) (drop from m)) (j - from) (omega arith) (rw (part_at (j - from) (omega arith), q) e)
+pub each-all : {A : Type 0} (p : A → Bool) (l : List A) → each_of p l ≡ list_all p l
+unfolding each_of
+each-all p [] = refl
+each-all p (a ∷ l) = ap (λ (b : Bool). p a && b) (each-all p l)
 
 drop-take : (k n : ℕ) (l : List ℕ) → drop k (take n l) ≡ take (n - k) (drop k l)
 drop-take zero n l = ap (λ (j : ℕ). take j l) (the n)
@@ -64,10 +49,9 @@ module _ (w : List ℕ) (long : length w ≡ 8674) (rows : live_count w ≤ 64) 
       drop-drop (2 * K) 482 w ∙ sym (take_all (8674 - (482 + 2 * K)) (drop (482 + 2 * K) w) (omega arith)) in
       rw (r, h)
 
-  module _ (L K : ℕ) (l : L ≡ live_count w) (k : K ≡ history_count w) where
-    pub unused-rows : each_of (λ x. eqb x 0) (take (482 - (290 + 3 * L)) (drop (290 + 3 * L) w)) ≡ false → unused_zero w ≡ false
-    unused-rows e = unused-is ∙ rw (← l, e)
+  pub unused-rows : each_of (λ x. eqb x 0) (take (482 - (290 + 3 * live_count w)) (drop (290 + 3 * live_count w) w)) ≡ false → unused_zero w ≡ false
+  unused-rows e = unused-is ∙ rw e
 
-    pub unused-history : each_of (λ x. eqb x 0) (take (482 - (290 + 3 * L)) (drop (290 + 3 * L) w)) ≡ true
-        → unused_zero w ≡ each_of (λ x. eqb x 0) (take (8674 - (482 + 2 * K)) (drop (482 + 2 * K) w))
-    unused-history e = unused-is ∙ rw (← l, ← k, e)
+  pub unused-history : each_of (λ x. eqb x 0) (take (482 - (290 + 3 * live_count w)) (drop (290 + 3 * live_count w) w)) ≡ true
+      → unused_zero w ≡ each_of (λ x. eqb x 0) (take (length w - (482 + 2 * history_count w)) (drop (482 + 2 * history_count w) w))
+  unused-history e = unused-is ∙ rw (e, long)

@@ -1,28 +1,26 @@
 // The row of a process, by halves. A history has many more entries than there are rows: so the identifiers are first laid side by
 // side, and each search takes the same six steps whatever it looks for.
-ghost use Rattle.std.specs.Prelude.{◌≡◌, List, ℕ, ◌<◌, ltb};
+ghost use Rattle.std.specs.Prelude.{◌≡◌, List, ℕ, ◌<◌, ltb, IfSome};
 ghost use Rattle.rules.specs.Base.{pick};
+ghost use Rattle.rules.specs.Machine.{live_count};
+ghost use Rattle.laws.specs.Found.{or_else};
 ghost use Rattle.machine.specs.RowOf.{row_of};
 ghost use Rattle.ordered.specs.Ordered.{Ordered};
 ghost use Rattle.ordered.specs.Search.{Identifiers, Around};
 
-use laws::wide;
 use machine::{MOST_ROWS, ROWS};
 
 // Stands where there is no row: no identifier is above it.
-const HIGHEST: u32 = 4294967295;
+const HIGHEST: u32 = u32::MAX;
 
 // The identifiers of the rows.
 pub fn identifiers(m: &[u32]) -> [u32; 64]
     requires { Ordered m.now }
     ensures { Identifiers m.now result }
 {
-    let live = wide(m[0]);
     let mut ids = [HIGHEST; 64];
-    let mut i: usize = 0;
-    while i < live {
+    for i in 0..m[0] as usize {
         ids[i] = m[ROWS + 3 * i];
-        i += 1;
     }
     ids
 }
@@ -42,24 +40,22 @@ fn candidate(ids: &[u32; 64], identifier: u32) -> usize
     let mut width = MOST_ROWS;
     while 1 < width {
         let half = width / 2;
-        low = low + half_if_below(ids[low + half - 1], identifier, half);
-        width = width - half;
+        low += half_if_below(ids[low + half - 1], identifier, half);
+        width -= half;
     }
     low
 }
 
-// The row of a process, or the live count where it is not live.
-pub fn row_in(m: &[u32], ids: &[u32; 64], identifier: u32) -> usize
+// The row of a process that is live.
+pub fn row_in(m: &[u32], ids: &[u32; 64], identifier: u32) -> Option<usize>
     requires { Ordered m.now × Identifiers m.now ids.now }
-    ensures { result ≡ row_of m.now identifier }
+    ensures row { or_else result (live_count m.now) ≡ row_of m.now identifier }
+    ensures live { IfSome result (λ i. i < live_count m.now) }
 {
-    let live = wide(m[0]);
     let row = candidate(ids, identifier);
-    if live <= row {
-        return live;
+    if row < m[0] as usize && ids[row] == identifier {
+        Some(row)
+    } else {
+        None
     }
-    if ids[row] == identifier {
-        return row;
-    }
-    live
 }

@@ -1,15 +1,11 @@
--- The loop stops at the first word that is not zero, or at the end.
-use Rattle.std.proofs.Common.{sym, arith}
-use borrow.Author.Tests.{ne_eqb}
-use Rattle.ordered.proofs.Zeros.{part-true, part-false}
+-- Each word is looked at.
+use Rattle.std.proofs.Common.{sym, ◌∙◌, rules, eqb}
+use Rattle.std.proofs.lemmas.Iterator.{YieldsList-from_slice}
+use Rattle.std.proofs.lemmas.Iterator.Search.{all_from_yields_List}
+use Rattle.ordered.proofs.Zeros.{each-all}
 use Rattle.ordered.proofs.words.all_zero.Goals as goal
-
-pub returns-then-m-i-ne0 : goal.returns-then-m-i-ne0
-returns-then-m-i-ne0 c =
-    let a = c.args in
-    sym (part-false a.m.now a.from a.to (omega arith) (omega arith) c.loop-i.i (omega arith) (omega arith) (ne_eqb _ _ c.if-m-i-ne0.true))
 
 pub returns : goal.returns
 returns c =
-    let a = c.args in
-    sym (part-true a.m.now a.from a.to (omega arith) (omega arith) (λ j h k. c.loop-i.invariant.2 j (omega arith) k))
+    all_from_yields_List (λ w. eqb w 0) _ _ _ c.all.ensures.ran (YieldsList-from_slice c.args.words.now cc) (λ x b q k. search rules)
+    ∙ sym (each-all (λ w. eqb w 0) c.args.words.now)
