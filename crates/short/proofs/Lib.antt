@@ -1,3 +1,2 @@
 -- Laws of programs that the proofs of several crates cite.
 pub mod Programs
-pub mod Searching
