@@ -1,5 +1,5 @@
 -- The ways through a forward step, each by the tests that lead to it. Assumes nothing.
-use mathlib.Core.Path.{◌≡◌}
+use mathlib.Core.Path.{◌≡◌, sym, ◌∙◌}
 use mathlib.Core.Bool.{Bool, true, false}
 use mathlib.Core.List.{List}
 use Prim.Native.Nat.{ℕ, ◌≤◌, ◌<◌}
@@ -16,34 +16,41 @@ use Rattle.rules.specs.Step.{waits, fork, merge, leaf_step, forward_childless, f
 use Rattle.rules.specs.declared.Block.{Block}
 use Rattle.rules.specs.declared.Place.{Place}
 
-module _ (program : List Block) (m : Machine) (p : ℕ) (here : Place) where
-  abbrev All : ℕ → Bool
-  All stage = each_of (λ c. eqb c.stands.stage stage) (children m.rows p)
+-- the process and where it stands, as its row tells them
+module _ (program : List Block) (m : Machine) {p told : ℕ} (own : told ≡ p) {here at : Place} (stands : at ≡ here) where
+  abbrev All : Bool
+  All = each_of (λ c. eqb c.stands.stage end) (children m.rows told)
 
-  pub at-end : here.stage ≡ end → refused 21 ≡ forward program m p here
+  pub at-end : at.stage ≡ end → refused 21 ≡ forward program m p here
   unfolding forward pick
-  at-end s = rw (eq-eqb here.stage end s)
+  at-end s = rw (← stands, eq-eqb at.stage end s)
 
-  module _ (s : here.stage ≡ end → ⊥) where
-    pub waiting : All end ≡ false → refused 20 ≡ forward program m p here
+  module _ (s : at.stage ≡ end → ⊥) where
+    pub waiting : All ≡ false → refused 20 ≡ forward program m p here
     unfolding forward waits pick
-    waiting a = rw (ne_eqb here.stage end s, a)
+    waiting a = rw (← stands, ← own, ne_eqb at.stage end s, a)
 
-    module _ (a : All end ≡ true) where
+    module _ (a : All ≡ true) where
       pub full : most_kept ≤ length m.history → refused 26 ≡ forward program m p here
       unfolding forward waits pick
-      full h = rw (ne_eqb here.stage end s, a, le-leb most_kept (length m.history) h)
+      full h = rw (← stands, ← own, ne_eqb at.stage end s, a, le-leb most_kept (length m.history) h)
 
-      module _ (h : length m.history < most_kept) where
-        pub alone : length (children m.rows p) ≡ 0 → forward_childless program m p here (entry_block program here) ≡ forward program m p here
+      module _ (h : length m.history < most_kept) {count : ℕ} (n : count ≡ length (children m.rows told)) where
+        pub alone : {into : ℕ} → into ≡ entry_block program here → count ≡ 0
+            → forward_childless program m p here into ≡ forward program m p here
         unfolding forward waits pick
-        alone c = rw (ne_eqb here.stage end s, a, lt-leb most_kept (length m.history) h, eq-eqb (length (children m.rows p)) 0 c)
+        alone i c =
+            rw i
+            (rw (← stands, ← own, ne_eqb at.stage end s, a, lt-leb most_kept (length m.history) h, eq-eqb (length (children m.rows told)) 0 (sym n ∙ c)))
 
-        pub merging : (length (children m.rows p) ≡ 0 → ⊥) → merge m p (exit_block program here) ≡ forward program m p here
+        pub merging : {out : ℕ} → out ≡ exit_block program here → (count ≡ 0 → ⊥) → merge m p out ≡ forward program m p here
         unfolding forward waits pick
-        merging c = rw (ne_eqb here.stage end s, a, lt-leb most_kept (length m.history) h, ne_eqb (length (children m.rows p)) 0 c)
+        merging o c =
+            rw o
+            (rw (← stands, ← own, ne_eqb at.stage end s, a, lt-leb most_kept (length m.history) h, ne_eqb (length (children m.rows told)) 0 (λ e. c (n ∙ e))))
 
-  -- ---- by a block
+-- ---- by a block
+module _ (program : List Block) (m : Machine) (p : ℕ) (here : Place) where
   module _ (b : ℕ) where
     pub calls : is_call (block_of program b).instruction ≡ true → fork program m p b ≡ forward_childless program m p here b
     unfolding forward_childless pick

@@ -1,5 +1,5 @@
 -- Plans that make what rules tries: of a leaf, a fork, a merge and their undos, by what the plan's functions read. Assumes nothing.
-use mathlib.Core.Path.{◌≡◌, sym, ap, ◌∙◌, subst}
+use mathlib.Core.Path.{◌≡◌, sym, ap, ◌∙◌, subst, subst⁻¹}
 use mathlib.Core.Bool.{true, false, not}
 use mathlib.Core.List.{List}
 use Rattle.std.specs.Prelude.{Result, Ok, Err}
@@ -36,6 +36,10 @@ use Rattle.step.proofs.Steps.{leaf-is, fork-is, merge-is, undo-leaf_is, undo-mer
 -- a refusal is fit for any machine
 pub refuses : {w : List ℕ} {code : Code} {tried : Tried Machine} → refused (number code) ≡ tried → Plans w (Err code) tried
 refuses e = record { shown = e; fit = tt }
+
+-- as a `?` hands it on
+pub refuses-by : {w : List ℕ} {r : Result Plan Code} {code : Code} {tried : Tried Machine} → r ≡ Err code → refused (number code) ≡ tried → Plans w r tried
+refuses-by {w} {r} {code} {tried} e h = subst⁻¹ (λ (x : Result Plan Code). Plans w x tried) e (refuses h)
 
 pub plans_at : {w : List ℕ} {plan : Result Plan Code} {t u : Tried Machine} → t ≡ u → Plans w plan t → Plans w plan u
 plans_at e h = record { shown = h.shown ∙ e; fit = h.fit }
@@ -135,6 +139,15 @@ module _ (w : List ℕ) (row : ℕ) (r : Ready w row) where
         fit = record { live = live; within = f; there = n.there };
       }
 
+  module _ {plan : Result Plan Code} {code : Code} (h : plan ≡ Err code) where
+    pub refuses-leaf : (b : ℕ) (tried : Tried Moved) → refused (number code) ≡ tried → Plans w plan (leaf_step m p b tried)
+    unfolding leaf_step after
+    refuses-leaf b tried e = refuses-by h (ap (λ (t : Tried Moved). leaf_step m p b t) e)
+
+    pub refuses-undo_leaf : (tried : Tried Moved) → refused (number code) ≡ tried → Plans w plan (undo_leaf m p tried)
+    unfolding undo_leaf after
+    refuses-undo_leaf tried e = refuses-by h (ap (λ (t : Tried Moved). undo_leaf m p t) e)
+
   -- ---- children put in
   module _ (program : List Block) (b : ℕ) (names : Names) (c : (block_of program b).instruction ≡ Instruction.Call names) (few : names.count ≤ 8) (eight : length names.labels ≡ 8) where
     counted : live_count w + names.count ≡ length m.rows + length (named names)
@@ -150,8 +163,9 @@ module _ (w : List ℕ) (row : ℕ) (r : Ready w row) where
       rooms : length m.rows + length (named names) ≤ 64
       rooms = omega (arith, counted, room)
 
-      pub refuses-outside : {code : Code} → refused (number code) ≡ exit_place m.memory (block_of program b).exit → Plans w (Err code) (fork program m p b)
-      refuses-outside e = refuses (outside-fork program m p b names c rooms (sym e))
+      pub refuses-outside : {plan : Result Plan Code} {code : Code} → plan ≡ Err code → refused (number code) ≡ exit_place m.memory (block_of program b).exit
+          → Plans w plan (fork program m p b)
+      refuses-outside h e = refuses-by h (outside-fork program m p b names c rooms (sym e))
 
       module _ (shallow : p < 268435456) (first : ℕ) (f : FirstFrom w (child p 1) first) where
         pub makes-fork : (q : Place) → made q ≡ exit_place m.memory (block_of program b).exit → history_count w < 4096
@@ -232,6 +246,7 @@ module _ (w : List ℕ) (row : ℕ) (r : Ready w row) where
           fit = record { live = live; at = fits_out; there = n.there };
         }
 
-  pub refuses-undo_fork : (program : List Block) (b : ℕ) {code : Code} → refused (number code) ≡ entry_place m.memory (block_of program b).entry → Plans w (Err code) (undo_fork program m p b)
+  pub refuses-undo_fork : (program : List Block) (b : ℕ) {plan : Result Plan Code} {code : Code} → plan ≡ Err code
+      → refused (number code) ≡ entry_place m.memory (block_of program b).entry → Plans w plan (undo_fork program m p b)
   unfolding undo_fork after
-  refuses-undo_fork program b e = refuses (rw (← e))
+  refuses-undo_fork program b h e = refuses-by h (rw (← e))

@@ -6,20 +6,20 @@ use Rattle.rules.specs.Leaf.{leaf_forward}
 use Rattle.rules.specs.Step.{leaf_step}
 use Rattle.rules.specs.declared.Block.{Block}
 use Rattle.step.specs.Ready.{process_at, here_at}
-use Rattle.forward.proofs.Ways.{calls, leaves}
-use Rattle.step.proofs.Calling.{called, not_called, is-call}
+use Rattle.step.proofs.Calling.{is-call}
 use Rattle.step.proofs.Making.{plans_at}
+use Rattle.forward.proofs.Ways.{calls, leaves}
 use Rattle.forward.proofs.childless.Goals as goal
 
-pub returns-in-Labels : goal.returns-in-Labels
-returns-in-Labels c program e =
-    let i = ap (λ (y : Block). y.instruction) e ∙ called c.args.block.instruction c.call_of.ensures c.in-Labels.is in
+pub returns-in-Some : goal.returns-in-Some
+returns-in-Some c program e =
+    let i = ap (λ (y : Block). y.instruction) e ∙ c.in-Some.ensures in
     plans_at (calls program _ _ (here_at c.args.m.now c.args.row) c.args.into (is-call i)) (c.fork.ensures program i (ap (λ (y : Block). y.exit) e))
 
-pub returns-in-Nothing : goal.returns-in-Nothing
-returns-in-Nothing c program e =
+pub returns-in-None : goal.returns-in-None
+returns-in-None c program e =
     let a = c.args in
-    let i = ap (λ (y : Block). is_call y.instruction) e ∙ not_called a.block.instruction c.call_of.ensures c.in-Nothing.is in
+    let i = ap (λ (y : Block). is_call y.instruction) e ∙ c.in-None.ensures in
     plans_at
     (ap (λ (y : Block). leaf_step (view a.m.now) (process_at a.m.now a.row) a.into
     (leaf_forward (view a.m.now).memory (here_at a.m.now a.row) y)) (sym e)
