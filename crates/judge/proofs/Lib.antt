@@ -1,1 +1,2 @@
+-- The ways through judging, which the answers cite.
 pub mod Ways

@@ -1,154 +1,192 @@
 -- The ways through judging: a code given at the lowest bad block, or passed. Assumes nothing.
-use mathlib.Core.Path.{◌≡◌, refl, sym, ap, ap₂, ◌∙◌, subst}
-use mathlib.Core.Bool.{Bool, true, false}
-use mathlib.Core.List.{List, map}
-use Prim.Native.Nat.{ℕ, ◌≤◌, ◌<◌}
-use native.Mathlib.Omega.{arith}
-use lib.ListN.{length, take}
-use lib.Seq.{length-take-le}
-use borrow.Author.Tests.{lt-ltb, le-ltb}
-use Rattle.rules.specs.Base.{pick, lowest, up_from}
+use Rattle.std.proofs.Common.{◌≡◌, ℕ, Bool, true, false, cond, ltb, List, length, take, Option, Some, None, Result, Ok, Err}
+use Rattle.std.proofs.Common.{refl, sym, ap, ap₂, ◌∙◌}
+use Rattle.std.specs.Result.{IsErrAnd}
+use Rattle.std.specs.Option.{ok_or}
+use Rattle.std.proofs.lemmas.Result.{err_from_is_err_and}
+use Rattle.rules.specs.Base.{pick, lowest}
+use Rattle.rules.specs.Codes.{number}
 use Rattle.rules.specs.Format.{main}
-use Rattle.rules.specs.Read.{Reading, got, fault}
-use Rattle.rules.specs.Labels.{block_of, home, called_by, bad9, bad10, bad11, bad12}
+use Rattle.rules.specs.Labels.{block_of, bad9, bad10, bad11, bad12}
 use Rattle.rules.specs.Calls.{Calling, calling_of, bad13, bad14, bad15, peak}
 use Rattle.rules.specs.Judge.{at_lowest, judged_blocks, judged_reading}
+use Rattle.rules.specs.Judgement.{Judgement, judged}
+use Rattle.rules.specs.Read.{Reading, got, fault}
+use Rattle.rules.specs.declared.Accepted.{Accepted}
 use Rattle.rules.specs.declared.Block.{Block}
-use Rattle.rules.specs.Judgement.{Judgement}
-use Rattle.laws.specs.CallTable.{calls_from, calling_from}
-use Rattle.calls.specs.Peaks.{MainPeak}
+use Rattle.rules.specs.declared.Code.{Code}
+use Rattle.rules.specs.declared.Refused.{Refused}
+use Rattle.laws.specs.Found.{found}
+use Rattle.laws.proofs.Lists.{pick-false}
+use Rattle.calls.specs.Peaks.{peak_unless_refused}
+use Rattle.calls.specs.Table.{calling}
+use Rattle.calls.specs.declared.table.Calls.{Calls}
+use Rattle.called.specs.Calls.{CallsOf}
+use Rattle.processes.specs.Own.{ProcessesOf}
+use Rattle.processes.specs.declared.Processes.{Processes}
+use Rattle.decode.specs.Blocks.{blocks_in}
 use Rattle.decode.specs.Shows.{Shows}
-use Rattle.decode.specs.declared.Decoded.{Decoded}
-use Rattle.judge.specs.Parts.{judged_calls, judged_names}
+use Rattle.decode.specs.declared.program.Program.{Program}
+use Rattle.judge.specs.Parts.{passed}
 
-module _ (code : ℕ) (bad : ℕ → Bool) (n : ℕ) (rest : Judgement) where
-  -- the lowest bad block r is one of them
-  pub given : (m r : ℕ) → m ≡ n → r ≡ lowest bad n → r < n → Judgement.Refused code r ≡ at_lowest code bad m rest
-  unfolding at_lowest pick
-  given m r q e h =
-      let k : lowest bad n < n = subst (λ (x : ℕ). x < n) e h in
-      ap (Judgement.Refused code) e
-      ∙ sym (ap (λ (x : ℕ). at_lowest code bad x rest) q ∙ ap (λ (b : Bool). pick b (Judgement.Refused code (lowest bad n)) rest) (lt-ltb (lowest bad n) n k))
+-- what is handed on of a refusal
+pub handed : (out : Result Accepted Refused) (r : Refused) → IsErrAnd out (λ x. x ≡ r) → judged out ≡ judged (Err r)
+handed out r w = let p = err_from_is_err_and out w in ap judged (p.1 ∙ ap Err p.2)
 
-  -- none is bad
-  pub passed : (m r : ℕ) → m ≡ n → r ≡ lowest bad n → n ≤ r → at_lowest code bad m rest ≡ rest
-  unfolding at_lowest pick
-  passed m r q e h =
-      let k : n ≤ lowest bad n = subst (λ (x : ℕ). n ≤ x) e h in
-      ap (λ (x : ℕ). at_lowest code bad x rest) q ∙ ap (λ (b : Bool). pick b (Judgement.Refused code (lowest bad n)) rest) (le-ltb (lowest bad n) n k)
+-- ---- one code
+module _ (code : Code) (k : ℕ) (rest j : Judgement) (bad : Option ℕ) where
+  given-if : (b : Bool) (r : Refused)
+      → j ≡ pick b (Judgement.Refused (number code) k) rest
+      → bad ≡ cond b (Some k) None
+      → Err r ≡ passed code bad
+      → judged (Err r) ≡ j
+  unfolding pick
+  given-if true r e f g =
+      let h : ◌≡◌ {A = Result (Unit {0}) Refused} (Err r) (Err (record { code = code; place = k })) = g ∙ ap (passed code) f in
+      let q : r ≡ record { code = code; place = k } = cc in
+      ap (λ (x : Refused). Judgement.Refused (number x.code) x.place) q ∙ sym e
+  given-if false r e f g =
+      let h : ◌≡◌ {A = Result (Unit {0}) Refused} (Err r) (Ok tt) = g ∙ ap (passed code) f in cc
 
--- the flat tables stand for the calling of the program
-pub same-calling :
-    (program : List Block) (homes counts names : List ℕ) (n : ℕ) → length program ≡ n → take n homes ≡ map (home program) (up_from 0 n) →
-    calls_from counts names n ≡ map (λ b. called_by b.instruction) program → calling_from homes counts names n ≡ calling_of program
-unfolding calling_of
-same-calling program homes counts names n l h c =
-    λ i. record { homes = (h ∙ ap (λ (k : ℕ). map (home program) (up_from 0 k)) (sym l)) i; calls = c i }
+  past-if : (b : Bool) (u : Unit {0})
+      → j ≡ pick b (Judgement.Refused (number code) k) rest
+      → bad ≡ cond b (Some k) None
+      → Ok u ≡ passed code bad
+      → j ≡ rest
+  unfolding pick
+  past-if true u e f g =
+      let h : ◌≡◌ {A = Result (Unit {0}) Refused} (Ok u) (Err (record { code = code; place = k })) = g ∙ ap (passed code) f in cc
+  past-if false u e f g = e
 
-pub taken : (blocks : List Block) (n : ℕ) → n ≤ length blocks → length (take n blocks) ≡ n
-taken blocks n h = length-take-le n blocks h
-
--- ---- codes 14 and 15
 module _
-    (program : List Block) (homes counts names : List ℕ) (n : ℕ) (l : length program ≡ n) (h : take n homes ≡ map (home program) (up_from 0 n))
-    (t : calls_from counts names n ≡ map (λ b. called_by b.instruction) program)
+    {j : Judgement} (code : Code) (p : ℕ → Bool) (n : ℕ) (rest : Judgement) (bad : Option ℕ)
+    (e : j ≡ at_lowest (number code) p n rest) (f : bad ≡ found p n)
   where
-    same : calling_from homes counts names n ≡ calling_of program
-    same = same-calling program homes counts names n l h t
+    -- it is given
+    pub given : (r : Refused) → Err r ≡ passed code bad → judged (Err r) ≡ j
+    unfolding at_lowest
+    given r g = given-if code (lowest p n) rest j bad (ltb (lowest p n) n) r e f g
 
-    lowest-same : (r : ℕ) → r ≡ lowest (bad14 (calling_from homes counts names n)) n → r ≡ lowest (bad14 (calling_of program)) n
-    lowest-same r e = e ∙ ap (λ (x : Calling). lowest (bad14 x) n) same
+    -- it is passed
+    pub past : (u : Unit {0}) → Ok u ≡ passed code bad → j ≡ rest
+    unfolding at_lowest
+    past u g = past-if code (lowest p n) rest j bad (ltb (lowest p n) n) u e f g
 
-    pub circle : (r : ℕ) → r ≡ lowest (bad14 (calling_from homes counts names n)) n → r < n → Judgement.Refused 14 r ≡ judged_calls program
-    unfolding judged_calls
-    circle r e k = given 14 (bad14 (calling_of program)) n _ (length program) r l (lowest-same r e) k
+-- ---- code 15, as main's peak is found or not
+module _ (n peak-of : ℕ) (j : Judgement) (o : Option ℕ) (r : Refused) where
+  too-deep_if : (b : Bool) (d : Refused)
+      → j ≡ pick b (Judgement.Refused 15 0) (Judgement.Accepted n peak-of)
+      → o ≡ cond b None (Some peak-of)
+      → r ≡ record { code = Code.TooDeep; place = 0 }
+      → Err d ≡ ok_or o r
+      → judged (Err d) ≡ j
+  unfolding pick
+  too-deep_if true d e f q g =
+      let h : ◌≡◌ {A = Result ℕ Refused} (Err d) (Err r) = g ∙ ap (λ (x : Option ℕ). ok_or x r) f in
+      let w : d ≡ record { code = Code.TooDeep; place = 0 } = cc in
+      ap (λ (x : Refused). Judgement.Refused (number x.code) x.place) w ∙ sym e
+  too-deep_if false d e f q g =
+      let h : ◌≡◌ {A = Result ℕ Refused} (Err d) (Ok peak-of) = g ∙ ap (λ (x : Option ℕ). ok_or x r) f in cc
 
-    pub too_large :
-        (r k : ℕ) → r ≡ lowest (bad14 (calling_from homes counts names n)) n → n ≤ r → MainPeak (calling_from homes counts names n) k → 64 < k →
-        Judgement.Refused 15 0 ≡ judged_calls program
-    unfolding judged_calls pick
-    too_large r k e q m o =
-        let b : bad15 (calling_of program) ≡ true = ap bad15 (sym same) ∙ m.refused ∙ lt-ltb 64 k o in
-        sym
-        (passed 14 (bad14 (calling_of program)) n _ (length program) r l (lowest-same r e) q
-        ∙ ap (λ (x : Bool). pick x (Judgement.Refused 15 0) (Judgement.Accepted (length program) (peak (calling_of program) main))) b)
+  accepted-if : (b : Bool) (k : ℕ)
+      → j ≡ pick b (Judgement.Refused 15 0) (Judgement.Accepted n peak-of)
+      → o ≡ cond b None (Some peak-of)
+      → Ok k ≡ ok_or o r
+      → Judgement.Accepted n k ≡ j
+  unfolding pick
+  accepted-if true k e f g =
+      let h : ◌≡◌ {A = Result ℕ Refused} (Ok k) (Err r) = g ∙ ap (λ (x : Option ℕ). ok_or x r) f in cc
+  accepted-if false k e f g =
+      let h : ◌≡◌ {A = Result ℕ Refused} (Ok k) (Ok peak-of) = g ∙ ap (λ (x : Option ℕ). ok_or x r) f in
+      let w : k ≡ peak-of = cc in
+      ap (Judgement.Accepted n) w ∙ sym e
 
-    pub accepted :
-        (r k : ℕ) → r ≡ lowest (bad14 (calling_from homes counts names n)) n → n ≤ r → MainPeak (calling_from homes counts names n) k → k ≤ 64 →
-        Judgement.Accepted n k ≡ judged_calls program
-    unfolding judged_calls pick
-    accepted r k e q m o =
-        let f : bad15 (calling_from homes counts names n) ≡ false = m.refused ∙ le-ltb 64 k o in
-        let b : bad15 (calling_of program) ≡ false = ap bad15 (sym same) ∙ f in
-        let p : k ≡ peak (calling_of program) main = m.own f ∙ ap (λ (x : Calling). peak x main) same in
-        ap₂ Judgement.Accepted (sym l) p
-        ∙ sym
-        (passed 14 (bad14 (calling_of program)) n _ (length program) r l (lowest-same r e) q
-        ∙ ap (λ (x : Bool). pick x (Judgement.Refused 15 0) (Judgement.Accepted (length program) (peak (calling_of program) main))) b)
+-- ---- all of them
+module _ (program : List Block) where
+  abbrev n : ℕ
+  n = length program
 
--- ---- codes 12 and 13
-module _ (program : List Block) (n : ℕ) (l : length program ≡ n) where
-  pub unknown : (r : ℕ) → r ≡ lowest (λ b. bad12 program (block_of program b)) n → r < n → Judgement.Refused 12 r ≡ judged_names program
-  unfolding judged_names
-  unknown r e k = given 12 (λ b. bad12 program (block_of program b)) n _ (length program) r l e k
+  abbrev bad-at : (List Block → Block → Bool) → ℕ → Bool
+  bad-at bad b = bad program (block_of program b)
 
-  pub no_main : (r : ℕ) → r ≡ lowest (λ b. bad12 program (block_of program b)) n → n ≤ r → bad13 program ≡ true → Judgement.Refused 13 0 ≡ judged_names program
-  unfolding judged_names pick
-  no_main r e k b =
-      sym
-      (passed 12 (λ b. bad12 program (block_of program b)) n _ (length program) r l e k
-      ∙ ap (λ (x : Bool). pick x (Judgement.Refused 13 0) (judged_calls program)) b)
+  -- what is judged after each of the codes
+  abbrev After15 : Judgement
+  After15 = Judgement.Accepted n (peak (calling_of program) main)
 
-  pub named : (r : ℕ) (j : Judgement) → r ≡ lowest (λ b. bad12 program (block_of program b)) n → n ≤ r → bad13 program ≡ false → j ≡ judged_calls program → j ≡ judged_names program
-  unfolding judged_names pick
-  named r j e k b c =
-      c
-      ∙ sym
-      (passed 12 (λ b. bad12 program (block_of program b)) n _ (length program) r l e k
-      ∙ ap (λ (x : Bool). pick x (Judgement.Refused 13 0) (judged_calls program)) b)
+  abbrev After14 : Judgement
+  After14 = pick (bad15 (calling_of program)) (Judgement.Refused 15 0) After15
 
-  -- ---- codes 9 to 11
+  abbrev After13 : Judgement
+  After13 = at_lowest 14 (bad14 (calling_of program)) n After14
+
+  abbrev After12 : Judgement
+  After12 = pick (bad13 program) (Judgement.Refused 13 0) After13
+
+  abbrev After11 : Judgement
+  After11 = at_lowest 12 (bad-at bad12) n After12
+
   abbrev After10 : Judgement
-  After10 = at_lowest 11 (bad11 program) (length program) (judged_names program)
+  After10 = at_lowest 11 (bad11 program) n After11
 
   abbrev After9 : Judgement
-  After9 = at_lowest 10 (λ b. bad10 program (block_of program b)) (length program) After10
+  After9 = at_lowest 10 (bad-at bad10) n After10
 
-  pub split : judged_blocks program ≡ at_lowest 9 (λ b. bad9 program (block_of program b)) (length program) After9
-  unfolding judged_blocks judged_names judged_calls
+  pub split : judged_blocks program ≡ at_lowest 9 (bad-at bad9) n After9
+  unfolding judged_blocks
   split = refl
 
-  pub semaphores : (r : ℕ) → r ≡ lowest (λ b. bad9 program (block_of program b)) n → r < n → Judgement.Refused 9 r ≡ judged_blocks program
-  semaphores r e k = given 9 (λ b. bad9 program (block_of program b)) n After9 (length program) r l e k ∙ sym split
+  -- codes 9 to 11 are passed
+  pub past11 : {semaphore label process : Option ℕ} {u v w : Unit {0}}
+      → semaphore ≡ found (bad-at bad9) n
+      → Ok u ≡ passed Code.SemaphoreNamed semaphore
+      → label ≡ found (bad-at bad10) n
+      → Ok v ≡ passed Code.LabelCount label
+      → process ≡ found (bad11 program) n
+      → Ok w ≡ passed Code.ProcessBlock process
+      → judged_blocks program ≡ After11
+  past11 f9 g9 f10 g10 f11 g11 =
+      past Code.ProcessBlock _ _ _ _ (past Code.LabelCount _ _ _ _ (past Code.SemaphoreNamed _ _ _ _ split f9 _ g9) f10 _ g10) f11 _ g11
 
-  module _ (r9 : ℕ) (e9 : r9 ≡ lowest (λ b. bad9 program (block_of program b)) n) (k9 : n ≤ r9) where
-    past9 : judged_blocks program ≡ After9
-    past9 = split ∙ passed 9 (λ b. bad9 program (block_of program b)) n After9 (length program) r9 l e9 k9
+  -- and 12 and 13
+  pub past13 : {unknown : Option ℕ} {u : Unit {0}}
+      → judged_blocks program ≡ After11
+      → unknown ≡ found (bad-at bad12) n
+      → Ok u ≡ passed Code.UnknownLabel unknown
+      → bad13 program ≡ false
+      → judged_blocks program ≡ After13
+  past13 e f g m = past Code.UnknownLabel _ _ _ _ e f _ g ∙ pick-false _ _ _ m
 
-    pub labelled : (r : ℕ) → r ≡ lowest (λ b. bad10 program (block_of program b)) n → r < n → Judgement.Refused 10 r ≡ judged_blocks program
-    labelled r e k = given 10 (λ b. bad10 program (block_of program b)) n After10 (length program) r l e k ∙ sym past9
+  -- the calls of a table that has those of the program
+  module _ (t : Calls) (p : Processes) (own : ProcessesOf program p) (c : CallsOf program p.homes t) where
+    same : calling t ≡ calling_of program
+    unfolding calling_of
+    same = λ i. record { homes = (ap₂ take c.count c.homes ∙ own.homes) i; calls = c.calls i }
 
-    module _ (r10 : ℕ) (e10 : r10 ≡ lowest (λ b. bad10 program (block_of program b)) n) (k10 : n ≤ r10) where
-      past10 : judged_blocks program ≡ After10
-      past10 = past9 ∙ passed 10 (λ b. bad10 program (block_of program b)) n After10 (length program) r10 l e10 k10
+    pub circles : (bad : Option ℕ) → bad ≡ found (bad14 (calling t)) t.count → bad ≡ found (bad14 (calling_of program)) n
+    circles bad e = e ∙ ap₂ (λ (x : Calling) (m : ℕ). found (bad14 x) m) same c.count
 
-      pub processes : (r : ℕ) → r ≡ lowest (bad11 program) n → r < n → Judgement.Refused 11 r ≡ judged_blocks program
-      processes r e k = given 11 (bad11 program) n (judged_names program) (length program) r l e k ∙ sym past10
+    module _ {j : Judgement} (o : Option ℕ) (e : o ≡ peak_unless_refused (calling t)) (left : j ≡ After14) where
+      peaks : o ≡ peak_unless_refused (calling_of program)
+      peaks = e ∙ ap peak_unless_refused same
 
-      pub names-left : (r : ℕ) (j : Judgement) → r ≡ lowest (bad11 program) n → n ≤ r → j ≡ judged_names program → j ≡ judged_blocks program
-      names-left r j e k c = c ∙ sym (past10 ∙ passed 11 (bad11 program) n (judged_names program) (length program) r l e k)
+      pub too_deep : (d r : Refused) → r ≡ record { code = Code.TooDeep; place = 0 } → Err d ≡ ok_or o r → judged (Err d) ≡ j
+      too_deep d r q g = too-deep_if n (peak (calling_of program) main) j o r (bad15 (calling_of program)) d left peaks q g
+
+      pub accepted : (r : Refused) (k : ℕ) → Ok k ≡ ok_or o r → Judgement.Accepted n k ≡ j
+      accepted r k g = accepted-if n (peak (calling_of program) main) j o r (bad15 (calling_of program)) k left peaks g
+
+-- where a code is passed nothing is bad
+pub none-bad : (code : Code) (bad : Option ℕ) (u : Unit {0}) → Ok u ≡ passed code bad → None ≡ bad
+none-bad code None u g = refl
+none-bad code (Some b) u g = cc
 
 -- ---- codes 1 to 8, as decoding shows them
-pub refused : (d : Reading (List Block)) (r : Decoded) → Shows d r → (r.code ≡ 0 → ⊥) → Judgement.Refused r.code r.place ≡ judged_reading d
+pub unread : (d : Reading (List Block)) (r : Refused) → Shows d (Err r) → judged (Err r) ≡ judged_reading d
 unfolding judged_reading
-refused (got program at) r s h = absurd (h s.code_is)
-refused (fault code place) r s h = ap₂ Judgement.Refused s.code_is s.place_is
+unread (got program at) r w = absurd w
+unread (fault code place) r w = ap₂ Judgement.Refused w.0 w.1
 
-pub counted : (d : Reading (List Block)) (r : Decoded) → Shows d r → r.code ≡ 0 → r.count ≤ 128
-counted (got program at) r s h = s.count_fits
-counted (fault code place) r s h = absurd (omega (arith, s.code_is, s.code_some, h))
-
-pub judged : (d : Reading (List Block)) (r : Decoded) (j : Judgement) → Shows d r → r.code ≡ 0 → j ≡ judged_blocks (take r.count r.blocks) → j ≡ judged_reading d
+pub read : (d : Reading (List Block)) (p : Program) (j : Judgement) → Shows d (Ok p) → j ≡ judged_blocks (blocks_in p) → j ≡ judged_reading d
 unfolding judged_reading
-judged (got program at) r j s h e = e ∙ ap judged_blocks s.blocks_are
-judged (fault code place) r j s h e = absurd (omega (arith, s.code_is, s.code_some, h))
+read (got program at) p j w e = e ∙ ap judged_blocks w
+read (fault code place) p j w e = absurd w
