@@ -10,42 +10,31 @@ ghost use Rattle.rules.specs.declared.Block.{Block};
 ghost use Rattle.ordered.specs.Ordered.{Ordered};
 
 use identifier::Identifier;
-use laws::wide;
 use machine::{BLOCK, HISTORY};
 
 // The identifier's digits are 1 to 8, but for the root's 0.
 fn digits_fit(identifier: u32) -> bool
     ensures { result ≡ digits_fit deepest identifier }
 {
-    let mut left = Identifier::DEPTH;
-    let mut rest = identifier;
-    while 0 < left {
-        if rest == Identifier::ROOT {
+    let mut rest = Identifier::from(identifier);
+    for _ in 0..Identifier::DEPTH {
+        if rest.number == Identifier::ROOT {
             return true;
         }
-        let process = Identifier { number: rest };
-        let digit = process.digit();
-        if digit < 1 {
+        let digit = rest.digit();
+        if digit < 1 || Identifier::MOST_CALLED < digit {
             return false;
         }
-        if Identifier::MOST_CALLED < digit {
-            return false;
-        }
-        let above = process.parent();
-        rest = above.number;
-        left -= 1;
+        rest = rest.parent();
     }
-    rest == Identifier::ROOT
+    rest.number == Identifier::ROOT
 }
 
 // The entry's block is one of the n, and its identifier one of a process.
 fn kept_fits(identifier: u32, block: u32, n: usize) -> bool
     ensures { result ≡ ltb block n && digits_fit deepest identifier }
 {
-    if n <= wide(block) {
-        return false;
-    }
-    digits_fit(identifier)
+    (block as usize) < n && digits_fit(identifier)
 }
 
 // Each entry's are.
@@ -53,13 +42,6 @@ pub fn all_kept(m: &[u32], n: usize) -> bool
     requires { Ordered m.now }
     ensures { (program : List Block) → length program ≡ n → result ≡ each_of (kept_fits program) (view m.now).history }
 {
-    let kept = wide(m[1]);
-    let mut k: usize = 0;
-    while k < kept {
-        if !kept_fits(m[HISTORY + 2 * k], m[BLOCK + 2 * k], n) {
-            return false;
-        }
-        k += 1;
-    }
-    true
+    let kept = m[1] as usize;
+    (0..kept).all(|k| kept_fits(m[HISTORY + 2 * k], m[BLOCK + 2 * k], n))
 }

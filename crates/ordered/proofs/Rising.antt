@@ -1,9 +1,9 @@
 -- Rows that ascend, by their places. Assumes nothing.
 use Prim.Native.Nat.{ℕ, zero, suc, ◌+◌, ◌-◌, ◌*◌, ◌<◌, ◌≤◌}
 use native.Mathlib.Omega.{arith}
-use native.Mathlib.Nat.{not-suc-le-zero, le_of_suc-le-suc, add-zero}
+use native.Mathlib.Nat.{not-suc-le-zero, le_of_suc-le-suc}
 use mathlib.Core.Path.{◌≡◌, refl, sym, ap, ◌∙◌}
-use mathlib.Core.Bool.{Bool, true, false, ◌&&◌, and-false}
+use mathlib.Core.Bool.{Bool, true, false, and-false}
 use mathlib.Core.List.{List, [], ◌∷◌}
 use lib.ListN.{length, get_or}
 use lib.Dec.{ltb}
@@ -11,31 +11,11 @@ use Rattle.std.specs.List.{list_all, range_with_len}
 use borrow.Author.Tests.{lt-ltb, le-ltb, ltb-true, ltb-false}
 use Rattle.rules.specs.Machine.{Process, live_count, view}
 use Rattle.rules.specs.Fits.{ascending}
-use Rattle.laws.proofs.Tests.{true_and, and-true, never}
+use Rattle.laws.proofs.Tests.{true_and}
 use Rattle.laws.proofs.Ascending.{ascending-head, ascending-tail}
 use Rattle.laws.proofs.View.{no_row, row-at, length-rows}
 use Rattle.laws.proofs.Lists.{each_at}
-
--- ---- a test of each number of a range
-module _ (p : ℕ → Bool) where
-  all-range : (a n : ℕ) → list_all p (range_with_len a n) ≡ true → (k : ℕ) → k < n → p (a + k) ≡ true
-  all-range a zero h k l = absurd (not-suc-le-zero l)
-  all-range a (suc n) h zero l = rw (add-zero a) (and-true (p a) _ h).0
-  all-range a (suc n) h (suc k) l =
-      let e : a + suc k ≡ a + 1 + k = omega arith in
-      rw e (all-range (a + 1) n (and-true (p a) _ h).1 k (le_of_suc-le-suc l))
-
-  one-not : (a n : ℕ) → list_all p (range_with_len a n) ≡ false → (k : ℕ) × (k < n) × (p (a + k) ≡ false)
-  one-not a zero h = never (sym h)
-  one-not a (suc n) h = go (p a) refl h (λ e. one-not (a + 1) n e)
-    where
-      go : (b : Bool) → p a ≡ b → (b && list_all p (range_with_len (a + 1) n)) ≡ false
-          → (list_all p (range_with_len (a + 1) n) ≡ false → (k : ℕ) × (k < n) × (p (a + 1 + k) ≡ false)) → (k : ℕ) × (k < suc n) × (p (a + k) ≡ false)
-      go false e h f = (0, omega arith, rw (add-zero a) e)
-      go true e h f =
-          let r = f h in
-          let q : a + suc r.0 ≡ a + 1 + r.0 = omega arith in
-          (suc r.0, omega (arith, r.1), rw q r.2)
+use Rattle.ordered.proofs.Each.{all-range, one-not}
 
 module _ (d : Process) where
   all-rise : (rows : List Process) → ((i : ℕ) → suc i < length rows → (get_or rows i d).identifier < (get_or rows (suc i) d).identifier) → ascending rows ≡ true
