@@ -17,7 +17,8 @@ use Rattle.rules.specs.Fits.{entry_block, exit_block, stands_in, called_at, nth}
 use Rattle.rules.specs.declared.Block.{Block}
 use Rattle.rules.specs.declared.Place.{Place}
 use Rattle.laws.proofs.CallTable.{calls-at}
-use Rattle.own.specs.Tables.{Homes, Calls}
+use Rattle.own.specs.Tables.{Homes, CallsIn}
+use Rattle.calls.specs.declared.table.Calls.{Calls}
 
 -- ---- in the process block of label l
 module _ (program : List Block) (l label stage : ℕ) where
@@ -47,10 +48,10 @@ numbers-at f a (suc n) (suc b) d h = numbers-at f (suc a) n b d (le_of_suc-le-su
     next : (a b : ℕ) → suc a + b ≡ a + suc b
     next a b = omega arith
 
-pub home-at : (program : List Block) (n b : ℕ) (homes : List ℕ) → Homes program n homes → b < n → get_or homes b 0 ≡ home program b
-home-at program n b homes h l =
+pub home-at : (program : List Block) (c : Calls) (b : ℕ) → Homes program c → b < c.count → get_or c.homes b 0 ≡ home program b
+home-at program c b h l =
     let z : 0 + b ≡ b = omega arith in
-    sym (get_or-take n homes b 0 l) ∙ ap (λ (t : List ℕ). get_or t b 0) h ∙ numbers-at (home program) 0 n b 0 l ∙ ap (home program) z
+    sym (get_or-take c.count c.homes b 0 l) ∙ ap (λ (t : List ℕ). get_or t b 0) h.are ∙ numbers-at (home program) 0 c.count b 0 l ∙ ap (home program) z
 
 -- ---- the labels called
 module _ (program : List Block) (q : Place) (b : ℕ) (e : b ≡ exit_block program q) where
@@ -58,33 +59,33 @@ module _ (program : List Block) (q : Place) (b : ℕ) (e : b ≡ exit_block prog
   unfolding called_at
   called-none h = rw (← e) (ap (λ (x : Block). called_by x.instruction) (get_or-eq_default program no_block h))
 
-  module _ (n : ℕ) (counts names : List ℕ) (size : length program ≡ n) (t : Calls program n counts names) (few : n ≤ 128) (l : b < n) where
-    pub called-some : called_at program q ≡ take (get_or counts b 0) (drop (8 * b) names)
+  module _ (c : Calls) (t : CallsIn program c) (few : c.count ≤ 128) (l : b < c.count) where
+    pub called-some : called_at program q ≡ take (get_or c.counts b 0) (drop (8 * b) c.names)
     unfolding called_at
     called-some =
         rw (← e)
         (sym (get_or-map (λ (x : Block). called_by x.instruction) program b no_block)
         ∙ ap (λ (x : List (List ℕ)). get_or x b []) (sym t.calls)
-        ∙ calls-at counts names n b l)
+        ∙ calls-at c.counts c.names c.count b l)
 
-    room : 8 * b + get_or counts b 0 ≤ length names
-    room = omega (arith, t.few b, t.size)
+    room : 8 * b + get_or c.counts b 0 ≤ length c.names
+    room = omega (arith, t.few b l, t.size)
 
-    pub called-length : get_or counts b 0 ≡ length (called_at program q)
+    pub called-length : get_or c.counts b 0 ≡ length (called_at program q)
     called-length =
         let r = room in
-        let d : length (drop (8 * b) names) ≡ length names - 8 * b = length-drop (8 * b) names in
-        sym (ap length called-some ∙ length-take-le (get_or counts b 0) (drop (8 * b) names) (omega arith))
+        let d : length (drop (8 * b) c.names) ≡ length c.names - 8 * b = length-drop (8 * b) c.names in
+        sym (ap length called-some ∙ length-take-le (get_or c.counts b 0) (drop (8 * b) c.names) (omega arith))
 
-    pub called-nth : (i : ℕ) → (i ≡ 0 → ⊥) → i ≤ get_or counts b 0 → some (get_or names (8 * b + i - 1) 0) ≡ nth (called_at program q) i
+    pub called-nth : (i : ℕ) → (i ≡ 0 → ⊥) → i ≤ get_or c.counts b 0 → some (get_or c.names (8 * b + i - 1) 0) ≡ nth (called_at program q) i
     called-nth zero f h = absurd (f refl)
     called-nth (suc i) f h =
-        let c = called-length in
+        let n = called-length in
         let j : 8 * b + suc i - 1 ≡ 8 * b + i = omega arith in
-        ap (λ (k : ℕ). some (get_or names k 0)) j
+        ap (λ (k : ℕ). some (get_or c.names k 0)) j
         ∙ sym (there (called_at program q) i (omega arith)
         ∙ ap (λ (x : List ℕ). some (get_or x i 0)) called-some
-        ∙ ap (λ (k : ℕ). some k) (get_or-take (get_or counts b 0) (drop (8 * b) names) i 0 (omega arith) ∙ get_or-drop (8 * b) names i 0))
+        ∙ ap (λ (k : ℕ). some k) (get_or-take (get_or c.counts b 0) (drop (8 * b) c.names) i 0 (omega arith) ∙ get_or-drop (8 * b) c.names i 0))
       where
         there : (l : List ℕ) (i : ℕ) → i < length l → get_elem? l i ≡ some (get_or l i 0)
         there [] i h = absurd (not-suc-le-zero h)

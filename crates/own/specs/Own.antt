@@ -1,8 +1,7 @@
--- The label that an answer `Own` gives.
-use Rattle.std.specs.Prelude.{ℕ}
-use Rattle.std.proofs.Math.Option.{Option, none, some}
-use Rattle.own.specs.declared.Own.{Own}
+-- The label that an answer gives, as rules has it.
+use Rattle.std.specs.Prelude.{ℕ, Option, Some, None}
+use Rattle.std.proofs.Math.Option as Rules
 
-abbrev pub label_of : Own → Option ℕ
-label_of (Own.Label l) = some l
-label_of Own.Nothing = none
+abbrev pub label_of : Option ℕ → Rules.Option ℕ
+label_of (Some l) = Rules.some l
+label_of None = Rules.none

@@ -1,5 +1,5 @@
 -- The rows before i stand in their own process blocks.
-use Rattle.std.proofs.Common.{◌≡◌, ℕ, ◌-◌, ◌<◌, ◌≤◌, true, List}
+use Rattle.std.proofs.Common.{◌≡◌, ℕ, ◌<◌, true, List}
 use Rattle.rules.specs.Machine.{view}
 use Rattle.rules.specs.declared.Block.{Block}
 use Rattle.rules.specs.Fits.{own_fits}
@@ -9,9 +9,4 @@ use Rattle.own.proofs.all_own.Given as goal
 
 abbrev pub invariant-loop-i : goal.invariant-loop-i
 invariant-loop-i l =
-    (l.i ≤ l.live)
-    × ((program : List Block) → Tables program l.n l.entries l.exits l.begins l.ends l.homes l.counts l.names
-    → (j : ℕ) → j < l.i → own_fits program (view l.m).rows (row_at l.m j) ≡ true)
-
-abbrev pub decreases-loop-i : goal.decreases-loop-i
-decreases-loop-i l = l.live - l.i
+    (program : List Block) → Tables program l.places l.calls → (j : ℕ) → j < l.i → own_fits program (view l.m).rows (row_at l.m j) ≡ true

@@ -3,11 +3,10 @@ use Rattle.std.proofs.Common.{sym, ap, length, arith}
 use Rattle.own.proofs.Placing.{called-none, called-length}
 use Rattle.own.proofs.called_count.Goals as goal
 
-pub returns-then-n-b : goal.returns-then-n-b
-returns-then-n-b c = λ program names x t.
-    let n = x.count in
-    sym (ap length (called-none program _ _ (c.exit_block-b.ensures program x) (omega arith)))
+pub returns-then-b-calls : goal.returns-then-b-calls
+returns-then-b-calls c = λ program x t.
+    called-length program _ _ (c.exit_block-b.ensures program x) c.args.calls.now t c.requires c.if-b-calls.true
 
-pub returns : goal.returns
-returns c = λ program names x t.
-    called-length program _ _ (c.exit_block-b.ensures program x) c.args.n c.args.counts.now names x.count t c.requires c.if-n-b.false
+pub returns-else-b-calls : goal.returns-else-b-calls
+returns-else-b-calls c = λ program x t.
+    sym (ap length (called-none program _ _ (c.exit_block-b.ensures program x) (omega (arith, t.count, c.if-b-calls.false))))

@@ -1,32 +1,32 @@
 -- At begin and end by the label alone, at run by the block.
 use Rattle.std.proofs.Common.{ℕ, sym, ap, ◌∙◌, eqb, arith}
+use borrow.Author.Tests.{le-ltb}
 use Rattle.own.proofs.Placing.{stands-begin, stands-end, stands-nowhere, stands-run, home-at}
 use Rattle.own.proofs.stands_in.Goals as goal
+use Rattle.own.proofs.stands_in.Goals.{then-here-eq-BEGIN-via-then-here-eq-BEGIN, then-here-eq-BEGIN-via-else-here-eq-BEGIN+then-here-eq-END}
 
-pub returns-then-stage-eq-BEGIN : goal.returns-then-stage-eq-BEGIN
-returns-then-stage-eq-BEGIN c = λ program t h.
-    let a = c.args in
-    ap (eqb a.label) c.word.ensures.0 ∙ sym (stands-begin program a.l a.label a.stage c.if-stage-eq-BEGIN.true)
-
-pub returns-then-stage-eq-END : goal.returns-then-stage-eq-END
-returns-then-stage-eq-END c = λ program t h.
-    let a = c.args in
-    ap (eqb a.label) c.word-then-stage-eq-END.ensures.0
-    ∙ sym (stands-end program a.l a.label a.stage c.if-stage-eq-BEGIN.false c.if-stage-eq-END.true)
-
-pub returns-then-n-b : goal.returns-then-n-b
-returns-then-n-b c = λ program t h.
-    let a = c.args in
-    let n = t.count in
-    sym
-    (stands-nowhere program a.l a.label a.stage c.if-stage-eq-BEGIN.false c.if-stage-eq-END.false _
-    (c.entry_block-b.ensures program t) (omega arith))
-
-pub returns : goal.returns
-returns c = λ program t h.
-    let a = c.args in
-    let n = t.count in
-    ap (λ (x : ℕ). eqb x a.l) (home-at program a.n _ a.homes.now h c.if-n-b.false)
+pub returns-then-here-eq-BEGIN : goal.returns-then-here-eq-BEGIN
+returns-then-here-eq-BEGIN c = λ program t h.
+    let q = c.args.here in
+    ap (eqb q.label) c.from.ensures
     ∙ sym
-    (stands-run program a.l a.label a.stage c.if-stage-eq-BEGIN.false c.if-stage-eq-END.false _
-    (c.entry_block-b.ensures program t) (omega arith))
+    (elim c.then-here-eq-BEGIN.branch [
+      | then-here-eq-BEGIN-via-then-here-eq-BEGIN w ↦ stands-begin program c.args.l q.label q.stage w.if-here-eq-BEGIN.true
+      | then-here-eq-BEGIN-via-else-here-eq-BEGIN+then-here-eq-END w ↦ stands-end program c.args.l q.label q.stage w.if-here-eq-BEGIN.false w.if-here-eq-END.true
+    ])
+
+pub returns-then-b-calls : goal.returns-then-b-calls
+returns-then-b-calls c = λ program t h.
+    let q = c.args.here in
+    ap (λ (x : ℕ). eqb x c.args.l) (home-at program c.args.calls.now _ h c.if-b-calls.true)
+    ∙ sym
+    (stands-run program c.args.l q.label q.stage c.if-here-eq-BEGIN.false c.if-here-eq-END.false _ (c.entry_block-b.ensures program t)
+    (omega (arith, h.count, c.if-b-calls.true)))
+
+pub returns-else-b-calls : goal.returns-else-b-calls
+returns-else-b-calls c = λ program t h.
+    let q = c.args.here in
+    le-ltb _ _ (omega (arith, c.if-b-calls.false))
+    ∙ sym
+    (stands-nowhere program c.args.l q.label q.stage c.if-here-eq-BEGIN.false c.if-here-eq-END.false _ (c.entry_block-b.ensures program t)
+    (omega (arith, h.count, c.if-b-calls.false)))
