@@ -24,7 +24,8 @@ pub bad12-read : (program : List Block) (a : List ℕ) (b : Block) → BeginsOf 
     → bad12 program b ≡ list_any (λ l. eqb (get_or a l 0) 0) (called_by b.instruction)
 unfolding bad12
 bad12-read program a b h =
-    ap (λ (p : ℕ → Bool). some_of p (called_by b.instruction)) (fun_ext (λ x. ap (λ (k : ℕ). eqb k 0) (sym (h.each x)))) ∙ some_of-any _ (called_by b.instruction)
+    ap (λ (p : ℕ → Bool). some_of p (called_by b.instruction)) (fun_ext (λ x. ap (λ (k : ℕ). eqb k 0) (sym (h.each x))))
+    ∙ some_of-any _ (called_by b.instruction)
 
 pub bad13-is : (program : List Block) (a : List ℕ) → BeginsOf program a → eqb (get_or a 0 0) 0 ≡ bad13 program
 unfolding bad13
@@ -82,7 +83,8 @@ module _ (blocks : List Block) where
             below_more _ i
             (λ b l.
             rw (get_or-set_other counts i b c 0 (omega arith))
-            (same-window (8 * b) (get_or counts b 0) (8 * i) _ names (omega (arith, t.few b)) (stored-before names labels (8 * i) c (omega arith)) ∙ t.each b l))
+            (same-window (8 * b) (get_or counts b 0) (8 * i) _ names (omega (arith, t.few b)) (stored-before names labels (8 * i) c (omega arith))
+            ∙ t.each b l))
             (rw (get_or-set_same counts i c 0 (omega arith)) (stored-there names labels (8 * i) c (omega arith) n ∙ e));
       }
 

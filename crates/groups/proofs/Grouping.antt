@@ -37,7 +37,9 @@ get_or-up_from a (suc n) (suc i) h = get_or-up_from (suc a) n i (le_of_suc-le-su
 module _ (old new : ℕ) (xs ys : List ℕ) (i : ℕ) (lt : i < length xs) (e : ys ≡ map (renamed old new) (take i xs) ++ drop i xs) where
   node : set ys i (renamed old new (get_or ys i 0)) ≡ map (renamed old new) (take (i + 1) xs) ++ drop (i + 1) xs
   node =
-      let long : length ys ≡ length xs = ap length e ∙ length-append (map (renamed old new) (take i xs)) (drop i xs) ∙ rw (length-map (take i xs) (renamed old new)) (sym (length-append (take i xs) (drop i xs)) ∙ ap length (take-append-drop i xs)) in
+      let whole : length (take i xs) + length (drop i xs) ≡ length xs = sym (length-append (take i xs) (drop i xs)) ∙ ap length (take-append-drop i xs) in
+      let long : length ys ≡ length xs =
+      ap length e ∙ length-append (map (renamed old new) (take i xs)) (drop i xs) ∙ rw (length-map (take i xs) (renamed old new)) whole in
       map_over_more (renamed old new) xs ys i (get_or ys i 0) lt e (get_d_any ys i 0 _ (omega arith))
 
   pub renamed-node : get_or ys i 0 ≡ old → set ys i new ≡ map (renamed old new) (take (i + 1) xs) ++ drop (i + 1) xs
@@ -94,7 +96,8 @@ module _ (blocks : List Block) (i : ℕ) where
   unfolding groups groups_from
   groups-more g h k l m lt e p q r s =
       let e1 : join_labels h i m ≡ join_labels (groups (take i blocks)) i (ordinary_labels (get_or blocks i blank)) =
-      rw (r, p, q, e) (sym (joins-append (groups (take i blocks)) i (entry_labels (get_or blocks i blank).entry) (exit_labels (get_or blocks i blank).exit))) in
+      rw (r, p, q, e)
+      (sym (joins-append (groups (take i blocks)) i (entry_labels (get_or blocks i blank).entry) (exit_labels (get_or blocks i blank).exit))) in
       let at : 0 + length (take i blocks) ≡ i = zero-add (length (take i blocks)) ∙ length-take-le i blocks (omega arith) in
       let e2 : groups (take (i + 1) blocks) ≡ join_labels (groups (take i blocks)) i (ordinary_labels (get_or blocks i blank)) =
       rw (take_more blocks i blank lt)

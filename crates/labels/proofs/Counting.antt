@@ -35,7 +35,8 @@ raised-none a l = record { size = refl; each = λ x. sym (add-zero (get_or a x 0
 times_more : (x : ℕ) (l : List ℕ) (k : ℕ) → k < length l → times x (take (k + 1) l) ≡ times x (take k l) + pick (eqb (get_or l k 0) x) 1 0
 unfolding times
 times_more x l k h =
-    rw (take_more l k 0 h) (times-append x (take k l) (get_or l k 0 ∷ []) ∙ ap (λ (m : ℕ). times x (take k l) + m) (add-zero (pick (eqb (get_or l k 0) x) 1 0)))
+    rw (take_more l k 0 h) (times-append x (take k l) (get_or l k 0 ∷ [])
+    ∙ ap (λ (m : ℕ). times x (take k l) + m) (add-zero (pick (eqb (get_or l k 0) x) 1 0)))
 
 -- one more at y, as a list sees it at x
 raised_at : (b : List ℕ) (y x : ℕ) → y < length b → get_or (set b y (get_or b y 0 + 1)) x 0 ≡ get_or b x 0 + pick (eqb y x) 1 0

@@ -76,16 +76,16 @@ impl Counts {
         self.begins[l] == 1 && self.ends[l] == 1 && self.entries[l] == 0 && self.exits[l] == 0
     }
 
-    fn all_ordinary(&self, labels: Few) -> bool
-        ensures { result ≡ list_all (ordinary_in self.now) (few labels) }
+    fn all_ordinary(&self, list: Few) -> bool
+        ensures { result ≡ list_all (ordinary_in self.now) (few list) }
     {
-        labels.labels().iter().all(|l| self.is_ordinary(*l))
+        list.labels().iter().all(|l| self.is_ordinary(*l))
     }
 
-    fn all_outer(&self, labels: Few) -> bool
-        ensures { result ≡ list_all (outer_in self.now) (few labels) }
+    fn all_outer(&self, list: Few) -> bool
+        ensures { result ≡ list_all (outer_in self.now) (few list) }
     {
-        labels.labels().iter().all(|l| self.is_outer(*l))
+        list.labels().iter().all(|l| self.is_outer(*l))
     }
 
     // A label of the block does not stand as it must.

@@ -14,7 +14,8 @@ use borrow.Author.Tests.{eq-eqb, ne_eqb, eqb-true}
 use Rattle.std.specs.Array.{IsFromFnResultFrom}
 use Rattle.std.proofs.lemmas.List.{set-get_or}
 use Rattle.rules.specs.Base.{pick, up_from}
-use Rattle.rules.specs.Labels.{label_node, ordinary_labels, renamed, join_nodes, join_labels, groups_from, groups, within, own_begins, own_ends, begin_labels, one_label, bad11, home}
+use Rattle.rules.specs.Labels.{label_node, ordinary_labels, renamed, join_nodes, join_labels, groups_from, groups}
+use Rattle.rules.specs.Labels.{within, own_begins, own_ends, begin_labels, one_label, bad11, home}
 use Rattle.rules.specs.declared.Block.{Block}
 use Rattle.laws.specs.Found.{found}
 use Rattle.laws.proofs.Lists.{pick_true, pick-false}
@@ -59,7 +60,8 @@ groups-below program = below-from (up_from 0 all_nodes) 0 all_nodes program (ome
   where
     alone : Below all_nodes (up_from 0 all_nodes)
     alone x =
-        ⊎_elim (λ s. rw (get_or-up_from 0 all_nodes x s) (omega arith)) (λ s. rw (get_or-eq_default (up_from 0 all_nodes) 0 {n = x} (rw (length-up_from 0 all_nodes) s)) (omega arith))
+        ⊎_elim (λ s. rw (get_or-up_from 0 all_nodes x s) (omega arith))
+        (λ s. rw (get_or-eq_default (up_from 0 all_nodes) 0 {n = x} (rw (length-up_from 0 all_nodes) s)) (omega arith))
         (lt-or_le x all_nodes)
 
 pub below-is : (program : List Block) (gs : List ℕ) → gs ≡ groups program → Below all_nodes gs
@@ -73,7 +75,8 @@ within-append stands gs g b [] q = ap (λ (k : ℕ). within stands gs g k q) (sy
 within-append stands gs g b (x ∷ p) q =
     ap (λ (l : List ℕ). pick (eqb (get_or gs b 0) g) (stands x) [] ++ l) (within-append stands gs g (suc b) p q)
     ∙ sym (append_assoc (pick (eqb (get_or gs b 0) g) (stands x) []) (within stands gs g (suc b) p) _)
-    ∙ ap (λ (k : ℕ). pick (eqb (get_or gs b 0) g) (stands x) [] ++ within stands gs g (suc b) p ++ within stands gs g k q) (suc-add b (length p) ∙ sym (add-suc b (length p)))
+    ∙ ap (λ (k : ℕ). pick (eqb (get_or gs b 0) g) (stands x) [] ++ within stands gs g (suc b) p ++ within stands gs g k q)
+    (suc-add b (length p) ∙ sym (add-suc b (length p)))
 
 -- a block that stands in at most eight labels of a kind adds no more to a group
 module _ (stands : Block → List ℕ) (short : (b : Block) → length (stands b) ≤ 8) (gs : List ℕ) (g : ℕ) where

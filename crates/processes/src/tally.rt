@@ -27,14 +27,14 @@ impl Tally {
     }
 
     // The labels noted in group g, where the first label noted stays.
-    pub fn note(&mut self, g: usize, labels: Few)
+    pub fn note(&mut self, g: usize, list: Few)
         requires { (g < all_nodes) × (get_or self.old.counts g 0 ≤ most) }
-        ensures { self.new ≡ noted self.old g (few labels) }
+        ensures { self.new ≡ noted self.old g (few list) }
     {
         let none_yet = self.counts[g] == 0;
         if none_yet {
-            self.firsts[g] = labels.first();
+            self.firsts[g] = list.first();
         }
-        self.counts[g] += labels.labels().len() as u16;
+        self.counts[g] += list.labels().len() as u16;
     }
 }

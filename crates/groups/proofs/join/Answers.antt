@@ -11,5 +11,6 @@ loop-l-init c = record { size = c.told-nodes; same = refl }
 pub loop-l-preserved : goal.loop-l-preserved
 loop-l-preserved c =
     let p = c.loop-l in
-    let e = joins-more c.args.nodes.now c.args.b c.args.labels.now _ _ p.l-index (omega arith) p.invariant.same (rw c.from-label.ensures at c.rename.ensures) in
+    let renamed = rw c.from-label.ensures at c.rename.ensures in
+    let e = joins-more c.args.nodes.now c.args.b c.args.labels.now _ _ p.l-index (omega arith) p.invariant.same renamed in
     record { size = ap length e ∙ length-joins _ _ _ ∙ c.told-nodes; same = e }

@@ -34,6 +34,10 @@ loop-b-preserved c =
     g.ensures.0 ∙ ap (λ k. get_or gs k 0) (sym (length-take-le p.b blocks (omega arith))) in
     rw (take_more blocks p.b blank (omega arith))
     record {
-      begins = tallied-more _ gs (take p.b blocks) _ p.invariant.begins (get_or blocks p.b blank) g.result at g.ensures.1 _ _ c.of_begin.ensures c.note.ensures;
-      ends = tallied-more _ gs (take p.b blocks) _ p.invariant.ends (get_or blocks p.b blank) g.result at g.ensures.1 _ _ c.of_end.ensures c.note-in-loop-b.ensures;
+      begins =
+          tallied-more _ gs (take p.b blocks) _ p.invariant.begins (get_or blocks p.b blank) g.result at g.ensures.1 _ _ c.of_begin.ensures
+          c.note.ensures;
+      ends =
+          tallied-more _ gs (take p.b blocks) _ p.invariant.ends (get_or blocks p.b blank) g.result at g.ensures.1 _ _ c.of_end.ensures
+          c.note-in-loop-b.ensures;
     }

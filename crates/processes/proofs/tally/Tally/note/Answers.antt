@@ -10,7 +10,7 @@ returns c =
     let s = c.if-none_yet.self in
     elim c.if-none_yet.branch [
       | then-none_yet w ↦
-          noted-first t s c.args.g (few c.args.labels) c.labels.result.now w.first.result w.if-none_yet.true w.first.ensures w.self-is c.labels.ensures
+          noted-first t s c.args.g (few c.args.list) c.labels.result.now w.first.result w.if-none_yet.true w.first.ensures w.self-is c.labels.ensures
       | else-none_yet w ↦
-          noted-later t s c.args.g (few c.args.labels) c.labels.result.now 0 w.if-none_yet.false w.self-is c.labels.ensures
+          noted-later t s c.args.g (few c.args.list) c.labels.result.now 0 w.if-none_yet.false w.self-is c.labels.ensures
     ]
