@@ -2,6 +2,7 @@
 use mathlib.Core.Path.{◌≡◌, sym, ap, ◌∙◌, subst}
 use mathlib.Core.Bool.{true, false}
 use mathlib.Core.List.{List, [], ◌∷◌, ◌++◌}
+use Rattle.std.specs.Prelude.{None}
 use Prim.Native.Nat.{ℕ, zero, suc, ◌+◌, ◌-◌, ◌*◌, ◌≤◌, ◌<◌}
 use native.Mathlib.Omega.{arith}
 use lib.ListN.{take, drop, get_or}
@@ -14,11 +15,10 @@ use Rattle.rules.specs.Cause.{holds}
 use Rattle.rules.specs.declared.Block.{Block}
 use Rattle.laws.specs.Conflict.{conflicts}
 use Rattle.laws.proofs.View.{kept_at, no_entry, kept-at, length-history, history-from, history-end}
-use Rattle.cause.specs.Held.{Newest, Scanned, later_conflict}
+use Rattle.cause.specs.Held.{IsNewest, Newest, Scanned, later_conflict}
 use Rattle.theorems.specs.Held.{held, held_none, none-counted}
 use Rattle.step.specs.History.{NewestAt}
-use Rattle.undo.specs.Freed.{BlocksBelow, FreeAt, is_held}
-use Rattle.undo.specs.declared.Free.{Free}
+use Rattle.undo.specs.Freed.{BlocksBelow}
 
 -- no entry from i on is of p
 none_from : (w : List ℕ) (p : ℕ) (n i : ℕ) → i + n ≡ history_count w → ((j : ℕ) → i ≤ j → j < history_count w → get_or w (482 + 2 * j) 0 ≡ p → ⊥)
@@ -33,28 +33,27 @@ none_from w p (suc n) i e h =
     rw (history-from w i k, ne_eqb (get_or w (482 + 2 * i) 0) p (h i (omega arith) k))
     (none_from w p n (suc i) (omega arith) (λ j l s. h j (omega arith) s))
 
-pub newest-at : (w : List ℕ) (p r : ℕ) → Newest w p r → r < history_count w → NewestAt (view w).history p r
-newest-at w p r n h =
+pub newest-at : (w : List ℕ) (p r : ℕ) → IsNewest w p r → NewestAt (view w).history p r
+newest-at w p r n =
     record {
-      there = omega (arith, length-history w, h);
-      own = ap (λ (k : Kept). k.identifier) (kept-at w r h) ∙ n.here h;
-      last = none_from w p (history_count w - suc r) (suc r) (omega arith) (λ j l s. n.past j l s);
+      there = omega (arith, length-history w, n.within);
+      own = ap (λ (k : Kept). k.identifier) (kept-at w r n.within) ∙ n.here;
+      last = none_from w p (history_count w - suc r) (suc r) (omega (arith, n.within)) (λ j l s. n.past j l s);
     }
 
 -- where p has no entry, there is none that could go back
-pub none-holds : (program : List Block) (w : List ℕ) (p r : ℕ) → Newest w p r → history_count w ≤ r → holds program (view w).history p ≡ true
-none-holds program w p r n h =
+pub none-holds : (program : List Block) (w : List ℕ) (p : ℕ) → Newest w p None → holds program (view w).history p ≡ true
+none-holds program w p n =
     held_none program (view w).history p
-    (none-counted program p (view w).history (none_from w p (history_count w) 0 (omega arith) (λ j l s. n.absent h j s)))
+    (none-counted program p (view w).history (none_from w p (history_count w) 0 (omega arith) (λ j h s. n j s)))
 
 -- code 27 by the later entries
-pub held-is : (program : List Block) (w : List ℕ) (p r : ℕ) → Newest w p r → (h : r < history_count w)
-    → later_conflict program w r ≡ holds program (view w).history p
-held-is program w p r n h =
+pub held-is : (program : List Block) (w : List ℕ) (p r : ℕ) → IsNewest w p r → later_conflict program w r ≡ holds program (view w).history p
+held-is program w p r n =
     let H : List Kept = (view w).history in
-    let g = newest-at w p r n h in
+    let g = newest-at w p r n in
     let s : H ≡ take r H ++ get_or H r no_entry ∷ drop (suc r) H = split_at H r no_entry g.there in
-    let k : get_or H r no_entry ≡ kept_at w r = kept-at w r h in
+    let k : get_or H r no_entry ≡ kept_at w r = kept-at w r n.within in
     let l = held program (take r H) (get_or H r no_entry) (drop (suc r) H)
     (subst (λ (x : ℕ). some_of (λ j. eqb j.identifier x) (drop (suc r) H) ≡ false) (sym g.own) g.last) in
     ap (λ (x : Kept). some_of (conflicts program x) (drop (suc r) H)) (sym k)
@@ -64,11 +63,3 @@ held-is program w p r n h =
 
 pub scanned : (w : List ℕ) (bound i : ℕ) → BlocksBelow w bound → i < history_count w → Scanned w i bound
 scanned w bound i b h = record { long = b.long; kept = b.kept; here = h; blocks = b.blocks }
-
--- what was found by the identifier of a row
-pub newest-in : {history : List Kept} {q p i : ℕ} {r : Free} → q ≡ p → FreeAt history q r → r ≡ Free.Entry i → NewestAt history p i
-newest-in {history} {q} {p} {i} e f g = subst (λ (x : ℕ). NewestAt history x i) e (subst (FreeAt history q) g f)
-
-pub held_in : (program : List Block) (history : List Kept) {q p : ℕ} {r s : Free} → q ≡ p → holds program history q ≡ is_held r → r ≡ s
-    → holds program history p ≡ is_held s
-held_in program history e h g = ap (λ (x : ℕ). holds program history x) (sym e) ∙ h ∙ ap is_held g

@@ -1,5 +1,5 @@
 -- The ways through an undo, each by the tests that lead to it. Assumes nothing.
-use mathlib.Core.Path.{◌≡◌}
+use mathlib.Core.Path.{◌≡◌, sym, ◌∙◌}
 use mathlib.Core.Bool.{Bool, true, false}
 use mathlib.Core.List.{List}
 use Prim.Native.Nat.{ℕ}
@@ -17,34 +17,36 @@ use Rattle.rules.specs.Step.{waits, undo_fork, undo_merge, undo_leaf, undo_child
 use Rattle.rules.specs.declared.Block.{Block}
 use Rattle.rules.specs.declared.Place.{Place}
 
-module _ (program : List Block) (m : Machine) (p : ℕ) (here : Place) where
-  abbrev All : ℕ → Bool
-  All stage = each_of (λ c. eqb c.stands.stage stage) (children m.rows p)
+-- the process and where it stands, as its row tells them
+module _ (program : List Block) (m : Machine) {p told : ℕ} (own : told ≡ p) {here at : Place} (stands : at ≡ here) where
+  abbrev All : Bool
+  All = each_of (λ c. eqb c.stands.stage begin) (children m.rows told)
 
-  pub at-begin : here.stage ≡ begin → refused 21 ≡ undo program m p here
+  pub at-begin : at.stage ≡ begin → refused 21 ≡ undo program m p here
   unfolding undo pick
-  at-begin s = rw (eq-eqb here.stage begin s)
+  at-begin s = rw (← stands, eq-eqb at.stage begin s)
 
-  module _ (s : here.stage ≡ begin → ⊥) where
-    pub undo-waiting : All begin ≡ false → refused 20 ≡ undo program m p here
+  module _ (s : at.stage ≡ begin → ⊥) where
+    pub undo-waiting : All ≡ false → refused 20 ≡ undo program m p here
     unfolding undo waits pick
-    undo-waiting a = rw (ne_eqb here.stage begin s, a)
+    undo-waiting a = rw (← stands, ← own, ne_eqb at.stage begin s, a)
 
-    module _ (a : All begin ≡ true) where
-      pub held_back : holds program m.history p ≡ true → refused 27 ≡ undo program m p here
+    module _ (a : All ≡ true) where
+      pub held_back : holds program m.history told ≡ true → refused 27 ≡ undo program m p here
       unfolding undo waits pick
-      held_back h = rw (ne_eqb here.stage begin s, a, h)
+      held_back h = rw (← stands, ← own, ne_eqb at.stage begin s, a, h)
 
-      module _ (h : holds program m.history p ≡ false) where
-        pub undo-alone : length (children m.rows p) ≡ 0 → undo_childless program m p here (exit_block program here) ≡ undo program m p here
+      module _ (h : holds program m.history told ≡ false) {count : ℕ} (n : count ≡ length (children m.rows told)) where
+        pub undo-alone : count ≡ 0 → undo_childless program m p here (exit_block program here) ≡ undo program m p here
         unfolding undo waits pick
-        undo-alone c = rw (ne_eqb here.stage begin s, a, h, eq-eqb (length (children m.rows p)) 0 c)
+        undo-alone c = rw (← stands, ← own, ne_eqb at.stage begin s, a, h, eq-eqb (length (children m.rows told)) 0 (sym n ∙ c))
 
-        pub undo-forking : (length (children m.rows p) ≡ 0 → ⊥) → undo_fork program m p (exit_block program here) ≡ undo program m p here
+        pub undo-forking : (count ≡ 0 → ⊥) → undo_fork program m p (exit_block program here) ≡ undo program m p here
         unfolding undo waits pick
-        undo-forking c = rw (ne_eqb here.stage begin s, a, h, ne_eqb (length (children m.rows p)) 0 c)
+        undo-forking c = rw (← stands, ← own, ne_eqb at.stage begin s, a, h, ne_eqb (length (children m.rows told)) 0 (λ e. c (n ∙ e)))
 
-  -- ---- by a block
+-- ---- by a block
+module _ (program : List Block) (m : Machine) (p : ℕ) (here : Place) where
   module _ (b : ℕ) where
     pub undo-calls : is_call (block_of program b).instruction ≡ true → undo_merge program m p b ≡ undo_childless program m p here b
     unfolding undo_childless pick

@@ -2,7 +2,7 @@
 // a leaf's step of the block whose exit holds its place.
 #![tactic(auto)]
 
-ghost use Rattle.std.specs.Prelude.{◌≡◌, List, ℕ, ◌<◌, length};
+ghost use Rattle.std.specs.Prelude.{◌≡◌, List, ℕ, ◌<◌, IfSome, is_none, length};
 ghost use Rattle.rules.specs.Labels.{block_of};
 ghost use Rattle.rules.specs.Machine.{view, children};
 ghost use Rattle.rules.specs.Fits.{exit_block};
@@ -11,109 +11,110 @@ ghost use Rattle.rules.specs.Leaf.{leaf_undo};
 ghost use Rattle.rules.specs.Step as Rules;
 ghost use Rattle.rules.specs.declared.Instruction.{Instruction};
 ghost use Rattle.laws.specs.Fit.{BlockFit, NamesFit};
-ghost use Rattle.masks.specs.Masks.{Masks};
+ghost use Rattle.masks.specs.Masks.{MasksOf};
 ghost use Rattle.step.specs.Ready.{process_at, here_at, Ready, Apt, Plans};
 ghost use Rattle.step.specs.History.{NewestAt};
-ghost use Rattle.undo.specs.Freed.{FreeAt, is_held, BlocksBelow};
+ghost use Rattle.undo.specs.Freed.{BlocksBelow};
 
-use laws::wide;
-use leaf::place::{Placed, Side};
-use leaf::plan::LeafPlan;
+use leaf::place::Side;
+use leaf::plan::Move;
 use machine::MOST_ROWS;
-use rules::{Block, Entry, Names, Place};
-use step::call::Called;
+use masks::Masks;
+use rules::{Block, Code, Names, Place};
+use standing::Process;
 use step::plan::Plan;
 
 // The place of the newest entry of p that the graph does not hold; nothing where it holds it, or p has none.
-#[derive(Clone, Copy)]
-pub enum Free {
-    Entry(usize),
-    Nothing,
-}
-
-fn newest_free(m: &[u32], reads: &[u64; 128], writes: &[u64; 128], p: u32) -> Free
+fn newest_free(m: &[u32], masks: &Masks, p: u32) -> Option<usize>
     requires { BlocksBelow m.now 128 }
-    ensures { FreeAt (view m.now).history p result × ((program : List Block) → Masks program reads.now writes.now → BlocksBelow m.now (length program) → holds program (view m.now).history p ≡ is_held result) }
+    ensures newest { IfSome result (λ i. NewestAt (view m.now).history p i) }
+    ensures free { (program : List Block) → MasksOf program masks.now → BlocksBelow m.now (length program) → holds program (view m.now).history p ≡ is_none result }
 {
-    let entry = cause::newest::newest(m, p);
-    if wide(m[1]) <= entry {
-        return Free::Nothing;
+    let entry = cause::newest::newest(m, p)?;
+    if cause::held::held(m, masks, entry) {
+        return None;
     }
-    if cause::held::held(m, reads, writes, entry) {
-        return Free::Nothing;
-    }
-    Free::Entry(entry)
+    Some(entry)
 }
 
 // The undo of a leaf's step.
-fn leaf(m: &[u32], row: usize, block: Block, entry: usize) -> Plan
-    requires { Ready m.now row × BlockFit block × NewestAt (view m.now).history (process_at m.now row) entry }
-    ensures { Plans m.now result (Rules.undo_leaf (view m.now) (process_at m.now row) (leaf_undo (view m.now).memory (here_at m.now row) block)) }
+fn leaf(m: &[u32], row: usize, block: &Block, entry: usize) -> Result<Plan, Code>
+    requires { Ready m.now row × BlockFit block.now × NewestAt (view m.now).history (process_at m.now row) entry }
+    ensures { Plans m.now result (Rules.undo_leaf (view m.now) (process_at m.now row) (leaf_undo (view m.now).memory (here_at m.now row) block.now)) }
 {
-    let here = standing::place(m, row);
-    match leaf::plan::undo(m, here, block) {
-        LeafPlan::Moves(q, writes) => Plan::UndoLeaf(row, q, writes, entry),
-        LeafPlan::Refused(code) => Plan::Refused(code),
-    }
+    let here = Process::of_row(m, row).stands;
+    let Move { to, writes } = leaf::plan::undo(m, here, block)?;
+    Ok(Plan::UndoLeaf {
+        row,
+        to,
+        writes,
+        entry,
+    })
 }
 
 // The undo of a merge: there must be room for the children's rows.
-fn merge(m: &[u32], row: usize, names: Names, entry: usize) -> Plan
+fn merge(m: &[u32], row: usize, names: Names, entry: usize) -> Result<Plan, Code>
     requires { Ready m.now row × NamesFit names × (process_at m.now row < 268435456) × NewestAt (view m.now).history (process_at m.now row) entry }
     ensures { (program : List Block) (b : ℕ) → (block_of program b).instruction ≡ Instruction.Call names → Plans m.now result (Rules.undo_merge program (view m.now) (process_at m.now row) b) }
 {
-    if MOST_ROWS < wide(m[0]) + laws::index(names.count) {
-        return Plan::Refused(28);
+    if MOST_ROWS < m[0] as usize + usize::from(names.count) {
+        return Err(Code::NoRoom);
     }
-    let first = family::first_child(m, standing::identifier(m, row));
-    Plan::UndoMerge(row, names, first, entry)
+    let first = family::first_child(m, Process::of_row(m, row).identifier);
+    Ok(Plan::UndoMerge {
+        row,
+        names,
+        first,
+        entry,
+    })
 }
 
 // The undo of a process that has no children.
-fn childless(m: &[u32], row: usize, block: Block, entry: usize) -> Plan
-    requires { Ready m.now row × Apt m.now row block × NewestAt (view m.now).history (process_at m.now row) entry }
-    ensures { (program : List Block) (b : ℕ) → block_of program b ≡ block → Plans m.now result (Rules.undo_childless program (view m.now) (process_at m.now row) (here_at m.now row) b) }
+fn childless(m: &[u32], row: usize, block: &Block, entry: usize) -> Result<Plan, Code>
+    requires { Ready m.now row × Apt m.now row block.now × NewestAt (view m.now).history (process_at m.now row) entry }
+    ensures { (program : List Block) (b : ℕ) → block_of program b ≡ block.now → Plans m.now result (Rules.undo_childless program (view m.now) (process_at m.now row) (here_at m.now row) b) }
 {
-    let instruction = block.instruction;
-    match step::call::call_of(instruction) {
-        Called::Labels(names) => merge(m, row, names, entry),
-        Called::Nothing => leaf(m, row, block, entry),
+    match step::call::call_of(block.instruction) {
+        Some(names) => merge(m, row, names, entry),
+        None => leaf(m, row, block, entry),
     }
 }
 
 // The undo of a fork: the process goes back to the entry label, and its children, all at begin, go.
-fn fork(m: &[u32], row: usize, block: Block, count: usize, entry: usize) -> Plan
-    requires { Ready m.now row × BlockFit block × (count ≡ length (children (view m.now).rows (process_at m.now row))) × NewestAt (view m.now).history (process_at m.now row) entry }
-    ensures { (program : List Block) (b : ℕ) → block_of program b ≡ block → Plans m.now result (Rules.undo_fork program (view m.now) (process_at m.now row) b) }
+fn fork(m: &[u32], row: usize, block: &Block, count: usize, entry: usize) -> Result<Plan, Code>
+    requires { Ready m.now row × BlockFit block.now × (count ≡ length (children (view m.now).rows (process_at m.now row))) × NewestAt (view m.now).history (process_at m.now row) entry }
+    ensures { (program : List Block) (b : ℕ) → block_of program b ≡ block.now → Plans m.now result (Rules.undo_fork program (view m.now) (process_at m.now row) b) }
 {
-    let first = family::first_child(m, standing::identifier(m, row));
-    let back = block.entry;
-    match leaf::place::place_on(m, Side::Entry(back)) {
-        Placed::At(q) => Plan::UndoFork(row, q, first, count, entry),
-        Placed::Outside => Plan::Refused(25),
-    }
+    let first = family::first_child(m, Process::of_row(m, row).identifier);
+    let to = leaf::place::place_on(m, Side::Entry(block.entry))?;
+    Ok(Plan::UndoFork {
+        row,
+        to,
+        first,
+        count,
+        entry,
+    })
 }
 
-// `block` is the block whose exit holds the place of the row's process; reads and writes are the masks of all blocks.
-pub fn undo(m: &[u32], reads: &[u64; 128], writes: &[u64; 128], row: usize, block: Block) -> Plan
-    requires { Ready m.now row × Apt m.now row block × BlocksBelow m.now 128 }
-    ensures { (program : List Block) → Masks program reads.now writes.now → BlocksBelow m.now (length program) → block_of program (exit_block program (here_at m.now row)) ≡ block → Plans m.now result (Rules.undo program (view m.now) (process_at m.now row) (here_at m.now row)) }
+// `block` is the block whose exit holds the place of the row's process; the masks are those of all blocks.
+pub fn undo(m: &[u32], masks: &Masks, row: usize, block: &Block) -> Result<Plan, Code>
+    requires { Ready m.now row × Apt m.now row block.now × BlocksBelow m.now 128 }
+    ensures { (program : List Block) → MasksOf program masks.now → BlocksBelow m.now (length program) → block_of program (exit_block program (here_at m.now row)) ≡ block.now → Plans m.now result (Rules.undo program (view m.now) (process_at m.now row) (here_at m.now row)) }
 {
-    if standing::stage(m, row) == Place::BEGIN {
-        return Plan::Refused(21);
+    let process = Process::of_row(m, row);
+    let p = process.identifier;
+    if process.stands.stage == Place::BEGIN {
+        return Err(Code::Stage);
     }
-    let p = standing::identifier(m, row);
     if !family::children_at(m, p, Place::BEGIN) {
-        return Plan::Refused(20);
+        return Err(Code::Children);
     }
-    match newest_free(m, reads, writes, p) {
-        Free::Nothing => Plan::Refused(27),
-        Free::Entry(entry) => {
-            let count = family::child_count(m, p);
-            if count == 0 {
-                return childless(m, row, block, entry);
-            }
-            fork(m, row, block, count, entry)
-        }
+    let Some(entry) = newest_free(m, masks, p) else {
+        return Err(Code::Held);
+    };
+    let count = family::child_count(m, p);
+    if count == 0 {
+        return childless(m, row, block, entry);
     }
+    fork(m, row, block, count, entry)
 }

@@ -1,28 +1,28 @@
 -- The process has no entry, or the graph holds its newest, or that entry is free.
-use Rattle.std.proofs.Common.{sym, ◌∙◌, arith}
+use Rattle.std.proofs.Common.{◌≡◌, sym, ◌∙◌, None, is_none, rules}
+use mathlib.Core.Path.{subst⁻¹}
+use Rattle.rules.specs.Machine.{view}
+use Rattle.rules.specs.Cause.{holds}
 use Rattle.undo.proofs.Freeing.{newest-at, none-holds, held-is, scanned}
 use Rattle.undo.proofs.newest_free.Goals as goal
 
-pub returns-then-wide-entry : goal.returns-then-wide-entry
-returns-then-wide-entry c =
-    (tt, λ program t b. none-holds program c.args.m.now c.args.p _ c.newest-entry.ensures (omega arith))
+pub returns-in_err-entry-clause-free : goal.returns-in_err-entry-clause-free
+returns-in_err-entry-clause-free c program t b =
+    let w = c.args.m.now in
+    let e : c.from_residual.result ≡ None = search rules in
+    subst⁻¹ (λ r. holds program (view w).history c.args.p ≡ is_none r) e (none-holds program w c.args.p c.in_err-entry.ensures)
 
-pub returns-then-held : goal.returns-then-held
-returns-then-held c =
-    let a = c.args in (
-      tt,
-      λ program t b.
-          sym (held-is program a.m.now a.p _ c.newest-entry.ensures (omega arith))
-          ∙ sym (c.held.ensures program t (scanned a.m.now _ _ b (omega arith)))
-          ∙ c.if-held.true,
-    )
+pub returns-then-held-clause-free : goal.returns-then-held-clause-free
+returns-then-held-clause-free c program t b =
+    let w = c.args.m.now in
+    let n = c.in_ok-entry.ensures in
+    sym (held-is program w c.args.p _ n) ∙ sym (c.held.ensures program t (scanned w _ _ b n.within)) ∙ c.if-held.true
 
-pub returns : goal.returns
-returns c =
-    let a = c.args in (
-      newest-at a.m.now a.p _ c.newest-entry.ensures (omega arith),
-      λ program t b.
-          sym (held-is program a.m.now a.p _ c.newest-entry.ensures (omega arith))
-          ∙ sym (c.held.ensures program t (scanned a.m.now _ _ b (omega arith)))
-          ∙ c.if-held.false,
-    )
+pub returns-clause-newest : goal.returns-clause-newest
+returns-clause-newest c = newest-at c.args.m.now c.args.p _ c.in_ok-entry.ensures
+
+pub returns-clause-free : goal.returns-clause-free
+returns-clause-free c program t b =
+    let w = c.args.m.now in
+    let n = c.in_ok-entry.ensures in
+    sym (held-is program w c.args.p _ n) ∙ sym (c.held.ensures program t (scanned w _ _ b n.within)) ∙ c.if-held.false
