@@ -1,113 +1,66 @@
-// The plans of one live process, by the tables of the image: what a step would do, the code that it would answer, and the step made.
+// The plans of one live process, by the tables of the image: what a step would do, and the step made.
 #![tactic(auto)]
 
-ghost use Rattle.std.specs.Prelude.{◌≡◌, ◌<◌, ◌≤◌, take};
+ghost use Rattle.std.specs.Prelude.{◌≡◌, ◌<◌, ◌≤◌, length};
 ghost use Rattle.rules.specs.Labels.{block_of};
 ghost use Rattle.rules.specs.Machine.{live_count, view};
 ghost use Rattle.rules.specs.Step.{forward, undo};
-ghost use Rattle.rules.specs.Words.{finished};
-ghost use Rattle.machine.specs.Outcome.{outcome};
-ghost use Rattle.masks.specs.Masks.{Masks};
-ghost use Rattle.places.specs.Places.{Entries, Exits};
-ghost use Rattle.step.specs.Planned.{planned};
+ghost use Rattle.masks.specs.Masks.{MasksOf};
+ghost use Rattle.places.specs.Places.{PlacesOf};
 ghost use Rattle.step.specs.Ready.{process_at, here_at, Plans};
-ghost use Rattle.plans.specs.Known.{Known, refused_in, code_in, Committed};
+ghost use Rattle.machine.specs.Outcome.{ended};
+ghost use Rattle.plans.specs.Known.{Known, Committed, made_by};
 
-use laws::narrow;
-use rules::Block;
+use masks::Masks;
+use places::Places;
+use rules::{Block, Code};
+use standing::Process;
 use step::plan::Plan;
 
-// Block b of the first n; one that names nothing past them.
-fn block_at(blocks: [Block; 128], n: usize, b: usize) -> Block
-    requires { n ≤ 128 }
-    ensures { result ≡ block_of (take n blocks) b }
+// Block b; one that names nothing past the last.
+fn block_at(blocks: &[Block], b: usize) -> Block
+    ensures { result ≡ block_of blocks.now b }
 {
-    if b < n {
-        return blocks[b];
+    match blocks.get(b) {
+        Some(block) => *block,
+        None => laws::no_block(),
     }
-    laws::no_block()
 }
 
 // What a forward step of the process of a row would do.
-pub fn forward_plan(
-    m: &[u32],
-    blocks: [Block; 128],
-    n: usize,
-    entries: &[u8; 256],
-    exits: &[u8; 256],
-    begins: &[u8; 256],
-    ends: &[u8; 256],
-    row: usize,
-) -> Plan
-    requires { Known (take n blocks) m.now × (n ≤ 128) × (row < live_count m.now) × Entries (take n blocks) n entries.now begins.now × Exits (take n blocks) n exits.now ends.now }
-    ensures { Plans m.now result (forward (take n blocks) (view m.now) (process_at m.now row) (here_at m.now row)) }
+pub fn forward_plan(m: &[u32], blocks: &[Block], places: &Places, row: usize) -> Result<Plan, Code>
+    requires { Known blocks.now m.now × (length blocks.now ≤ 128) × (row < live_count m.now) × PlacesOf blocks.now places.now }
+    ensures { Plans m.now result (forward blocks.now (view m.now) (process_at m.now row) (here_at m.now row)) }
 {
-    let label = standing::label(m, row);
-    let stage = standing::stage(m, row);
-    let into = places::lookup::entry_block(entries, begins, n, label, stage);
-    let out = places::lookup::exit_block(exits, ends, n, label, stage);
-    let block = block_at(blocks, n, into);
-    forward::forward(m, row, narrow(into), narrow(out), block)
+    let here = Process::of_row(m, row).stands;
+    let into = places.entry_block(here.label, here.stage);
+    let out = places.exit_block(here.label, here.stage);
+    let block = block_at(blocks, into);
+    forward::forward(m, row, into as u32, out as u32, &block)
 }
 
 // What an undo of the process of a row would do.
 pub fn undo_plan(
     m: &[u32],
-    blocks: [Block; 128],
-    n: usize,
-    exits: &[u8; 256],
-    ends: &[u8; 256],
-    reads: &[u64; 128],
-    writes: &[u64; 128],
+    blocks: &[Block],
+    places: &Places,
+    masks: &Masks,
     row: usize,
-) -> Plan
-    requires { Known (take n blocks) m.now × (n ≤ 128) × (row < live_count m.now) × Exits (take n blocks) n exits.now ends.now × Masks (take n blocks) reads.now writes.now }
-    ensures { Plans m.now result (undo (take n blocks) (view m.now) (process_at m.now row) (here_at m.now row)) }
+) -> Result<Plan, Code>
+    requires { Known blocks.now m.now × (length blocks.now ≤ 128) × (row < live_count m.now) × PlacesOf blocks.now places.now × MasksOf blocks.now masks.now }
+    ensures { Plans m.now result (undo blocks.now (view m.now) (process_at m.now row) (here_at m.now row)) }
 {
-    let label = standing::label(m, row);
-    let stage = standing::stage(m, row);
-    let out = places::lookup::exit_block(exits, ends, n, label, stage);
-    let block = block_at(blocks, n, out);
-    undo::undo(m, reads, writes, row, block)
+    let here = Process::of_row(m, row).stands;
+    let out = places.exit_block(here.label, here.stage);
+    let block = block_at(blocks, out);
+    undo::undo(m, masks, row, &block)
 }
 
-pub fn is_refused(plan: Plan) -> bool
-    ensures { result ≡ refused_in plan }
-{
-    match plan {
-        Plan::Refused(_) => true,
-        Plan::Leaf(_, _, _, _) => false,
-        Plan::Fork(_, _, _, _, _) => false,
-        Plan::Merge(_, _, _, _) => false,
-        Plan::UndoLeaf(_, _, _, _) => false,
-        Plan::UndoFork(_, _, _, _, _) => false,
-        Plan::UndoMerge(_, _, _, _) => false,
-    }
-}
-
-// The code that a plan answers.
-pub fn code_of(plan: Plan) -> u32
-    ensures { result ≡ code_in plan }
-{
-    match plan {
-        Plan::Refused(code) => code,
-        Plan::Leaf(_, _, _, _) => 0,
-        Plan::Fork(_, _, _, _, _) => 0,
-        Plan::Merge(_, _, _, _) => 0,
-        Plan::UndoLeaf(_, _, _, _) => 0,
-        Plan::UndoFork(_, _, _, _, _) => 0,
-        Plan::UndoMerge(_, _, _, _) => 0,
-    }
-}
-
-// The plan made, and its code.
-pub fn finish(m: &mut [u32], plan: Plan) -> u32
+// The plan made, or its refusal handed on with the words as they are.
+pub fn finish(m: &mut [u32], plan: Result<Plan, Code>) -> Result<(), Code>
     requires { Committed plan m.old }
-    ensures { outcome result m.new ≡ finished m.old (planned plan (view m.old)) }
+    ensures { ended result m.new ≡ made_by plan m.old }
 {
-    if is_refused(plan) {
-        return code_of(plan);
-    }
-    commit::commit(m, plan);
-    0
+    commit::commit(m, plan?);
+    Ok(())
 }
