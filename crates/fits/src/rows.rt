@@ -1,5 +1,6 @@
 // The clauses that speak of the rows, taken together.
 ghost use Rattle.std.specs.Prelude.{◌≡◌, List, ◌≤◌};
+ghost use Rattle.rules.specs.Format.{most_blocks};
 ghost use Rattle.rules.specs.Machine.{standing, view};
 ghost use Rattle.rules.specs.Fits.{is_live};
 ghost use Rattle.rules.specs.declared.Block.{Block};
@@ -8,46 +9,35 @@ ghost use Rattle.fits.specs.Rows.{rows_fit};
 ghost use Rattle.own.specs.Tables.{Tables};
 
 use crate::children::{all_whole, tally_of};
+use calls::Calls;
 use identifier::Identifier;
-use laws::wide;
 use machine::find::row_of;
 use newest::{all_newest, newest_of};
 use own::all_own;
+use places::Places;
 
 // The process is live.
 fn is_live(m: &[u32], identifier: u32) -> bool
     requires { Ordered m.now }
     ensures { result ≡ is_live (standing (view m.now).rows identifier) }
 {
-    row_of(m, identifier) < wide(m[0])
+    row_of(m, identifier).is_some()
 }
 
 // The root is live; each live process stands in its own process block, has none or all of its call's children, and has the newest
 // history entry that it must.
-pub fn rows_fit(
-    m: &[u32],
-    entries: &[u8; 256],
-    exits: &[u8; 256],
-    begins: &[u8; 256],
-    ends: &[u8; 256],
-    homes: &[u8; 128],
-    counts: &[u8; 128],
-    names: &[u8; 1024],
-    n: usize,
-) -> bool
-    requires { Ordered m.now × (n ≤ 128) }
-    ensures { (program : List Block) → Tables program n entries.now exits.now begins.now ends.now homes.now counts.now names.now → result ≡ rows_fit program (view m.now) }
+pub fn rows_fit(m: &[u32], places: &Places, calls: &Calls) -> bool
+    requires { Ordered m.now × (calls.now.count ≤ most_blocks) }
+    ensures { (program : List Block) → Tables program places.now calls.now → result ≡ rows_fit program (view m.now) }
 {
     if !is_live(m, Identifier::ROOT) {
         return false;
     }
-    if !all_own(m, entries, exits, begins, ends, homes, counts, names, n) {
+    if !all_own(m, places, calls) {
         return false;
     }
-    let tally = tally_of(m);
-    if !all_whole(m, &tally, exits, ends, counts, n) {
+    if !all_whole(m, &tally_of(m), places, calls) {
         return false;
     }
-    let newest = newest_of(m);
-    all_newest(m, &newest, exits, ends, n)
+    all_newest(m, &newest_of(m), places)
 }

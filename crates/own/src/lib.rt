@@ -58,7 +58,7 @@ fn called_label(places: &Places, calls: &Calls, here: Place, i: u32) -> Option<u
 }
 
 // Where the process of a row stands.
-fn place_of(m: &[u32], row: usize) -> Place
+pub fn place_of(m: &[u32], row: usize) -> Place
     requires { (length m.now ≡ 8674) × (row < 64) }
     ensures { result ≡ (row_at m.now row).stands }
 {

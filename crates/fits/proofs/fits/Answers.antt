@@ -28,4 +28,4 @@ returns c = λ program t.
     let w = c.args.m.now in
     let e : in_order w ≡ true = sym c.if-not-in_order.ensures in
     let f : rows_fit program (view w) ≡ true = sym (c.if-not-rows_fit.ensures program t) in
-    c.all_kept.ensures program t.enters.count ∙ sym (in_order_fits program w (ordered w c.requires.0 e) e ∙ rw f)
+    c.all_kept.ensures program (sym t.calls.count) ∙ sym (in_order_fits program w (ordered w c.requires.0 e) e ∙ rw f)

@@ -5,18 +5,17 @@ use Rattle.fits.proofs.Tallying.{tallied-none, tallied-room, tallied-more, talli
 use Rattle.fits.proofs.children.tally_of.Goals as goal
 
 pub loop-i-init : goal.loop-i-init
-loop-i-init c = (omega arith, tallied-none c.args.m.now c.requires)
+loop-i-init c = tallied-none c.args.m.now c.requires
 
 pub count_child-requires : goal.count_child-requires
 count_child-requires c =
-    let v = c.loop-i.invariant.1 in
-    (c.requires, v.size, tallied-room c.args.m.now c.requires c.loop-i.i _ (omega arith) v)
+    let h = c.requires.live in
+    (c.requires, tallied-room c.args.m.now c.requires c.loop-i.i _ (omega arith) c.loop-i.invariant)
 
 pub loop-i-preserved : goal.loop-i-preserved
-loop-i-preserved c =
-    (omega arith, tallied-more c.args.m.now c.requires c.loop-i.i _ _ (omega arith) c.loop-i.invariant.1 c.count_child.ensures)
+loop-i-preserved c = tallied-more c.args.m.now c.requires c.loop-i.i _ _ (omega arith) c.loop-i.invariant c.count_child.ensures
 
 pub returns : goal.returns
 returns c =
     let e : c.loop-i.i ≡ live_count c.args.m.now = omega arith in
-    tallied-all c.args.m.now c.requires c.loop-i.i _ e c.loop-i.invariant.1
+    tallied-all c.args.m.now c.requires c.loop-i.i _ e c.loop-i.invariant

@@ -28,7 +28,7 @@ returns-then-not-all_whole c = λ program t.
     let v = view c.args.m.now in
     let e : is_live (standing v.rows 0) ≡ true = sym c.if-not-is_live.ensures in
     let f : each_of (own_fits program v.rows) v.rows ≡ true = sym (c.if-not-all_own.ensures program t) in
-    let g : each_of (whole_family program v.rows) v.rows ≡ false = sym (c.if-not-all_whole.ensures program _ t.leaves t.calls) in
+    let g : each_of (whole_family program v.rows) v.rows ≡ false = sym (c.if-not-all_whole.ensures program t.leaves t.calls) in
     rw (e, f, g)
 
 pub returns : goal.returns
@@ -37,5 +37,5 @@ returns c = λ program t.
     let v = view c.args.m.now in
     let e : is_live (standing v.rows 0) ≡ true = sym c.if-not-is_live.ensures in
     let f : each_of (own_fits program v.rows) v.rows ≡ true = sym (c.if-not-all_own.ensures program t) in
-    let g : each_of (whole_family program v.rows) v.rows ≡ true = sym (c.if-not-all_whole.ensures program _ t.leaves t.calls) in
+    let g : each_of (whole_family program v.rows) v.rows ≡ true = sym (c.if-not-all_whole.ensures program t.leaves t.calls) in
     rw (e, f, g) (c.all_newest.ensures program t.leaves)
