@@ -3,10 +3,10 @@ use Rattle.std.proofs.Common.{arith}
 use Rattle.newest.proofs.Recent.{noted_lost, noted_found}
 use Rattle.newest.proofs.note.Goals as goal
 
-pub returns-then-wide-row : goal.returns-then-wide-row
-returns-then-wide-row c =
-    noted_lost c.args.m.now c.requires.0 c.args.identifier c.args.block _ c.args.newest.now c.row_in-row.ensures (omega arith)
+pub returns-in-Some : goal.returns-in-Some
+returns-in-Some c =
+    noted_found c.args.m.now c.requires.0 c.args.identifier c.args.block _ c.args.newest.now c.in-Some.ensures.row (omega arith) c.in-Some.ensures.live
 
-pub returns : goal.returns
-returns c =
-    noted_found c.args.m.now c.requires.0 c.args.identifier c.args.block _ c.args.newest.now c.row_in-row.ensures c.requires.2 (omega arith)
+pub returns-in_default : goal.returns-in_default
+returns-in_default c =
+    noted_lost c.args.m.now c.requires.0 c.args.identifier c.args.block _ c.args.newest.now c.in_default.ensures.row (omega arith)
