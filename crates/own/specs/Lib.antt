@@ -1,3 +1,2 @@
 -- Definitions that the contracts of this crate and of others cite.
 pub mod Tables
-pub mod Own

@@ -12,7 +12,7 @@ ghost use Rattle.rules.specs.declared.Block.{Block};
 ghost use Rattle.places.specs.Places.{Entries, Exits};
 ghost use Rattle.own.specs.Tables.{Homes, CallsIn, Tables};
 ghost use Rattle.ordered.specs.Ordered.{Ordered};
-ghost use Rattle.own.specs.Own.{label_of};
+ghost use Rattle.ordered.specs.Given.{given};
 
 use calls::Calls;
 use identifier::Identifier;
@@ -48,7 +48,7 @@ pub fn called_count(places: &Places, calls: &Calls, here: Place) -> u8
 // The i-th of them.
 fn called_label(places: &Places, calls: &Calls, here: Place, i: u32) -> Option<u8>
     requires { calls.now.count ≤ most_blocks }
-    ensures { (program : List Block) → Exits program places.now → CallsIn program calls.now → label_of result ≡ nth (called_at program here) i }
+    ensures { (program : List Block) → Exits program places.now → CallsIn program calls.now → given result ≡ nth (called_at program here) i }
 {
     let b = places.exit_block(here.label, here.stage);
     if calls.count <= b || i == 0 || Identifier::MOST_CALLED < i || u32::from(calls.counts[b]) < i {
@@ -71,7 +71,7 @@ pub fn place_of(m: &[u32], row: usize) -> Place
 // The label of a process's own process block; nothing where its parent is not live, or names no such child.
 fn own_label(m: &[u32], places: &Places, calls: &Calls, identifier: u32) -> Option<u8>
     requires { Ordered m.now × (calls.now.count ≤ most_blocks) }
-    ensures { (program : List Block) → Exits program places.now → CallsIn program calls.now → label_of result ≡ own_label program (view m.now).rows identifier }
+    ensures { (program : List Block) → Exits program places.now → CallsIn program calls.now → given result ≡ own_label program (view m.now).rows identifier }
 {
     if identifier == Identifier::ROOT {
         return Some(MAIN);

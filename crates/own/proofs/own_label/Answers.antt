@@ -4,7 +4,7 @@ use Rattle.rules.specs.Fits.{called_at, nth}
 use Rattle.rules.specs.declared.Place.{Place}
 use Rattle.identifier.specs.declared.Identifier.{Identifier}
 use Rattle.machine.specs.RowOf.{row_of}
-use Rattle.own.specs.Own.{label_of}
+use Rattle.ordered.specs.Given.{given}
 use Rattle.own.proofs.Owning.{own_root, own-lost, own-called}
 use Rattle.own.proofs.own_label.Goals as goal
 
@@ -14,7 +14,7 @@ returns-then-identifier-eq-ROOT c = λ program x t. own_root program c.args.m.no
 pub returns-in_err-parent : goal.returns-in_err-parent
 returns-in_err-parent c = λ program x t.
     let w = c.args.m.now in
-    ap label_of c.from_residual.ensures
+    ap given c.from_residual.ensures
     ∙ own-lost program w c.args.identifier c.if-identifier-eq-ROOT.false _
     (c.in_err-parent.ensures.row ∙ ap (row_of w) (c.parent.ensures ∙ ap (λ (p : Identifier). p.number / 16) c.from-process.ensures))
     (omega arith)

@@ -1,2 +1,0 @@
--- Definitions that the contracts of the list cite.
-pub mod Listed
