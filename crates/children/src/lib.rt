@@ -18,7 +18,7 @@ fn eight_rows(p: u32, stage: u32, labels: &[u8; 8]) -> [u32; 24]
     requires { p < 268435456 }
     ensures { result ≡ pack_rows (child_rows p stage 1 labels.now) }
 {
-    let parent = Identifier { number: p };
+    let parent = Identifier::from(p);
     let mut rows = [0; 24];
     for (i, label) in labels.iter().enumerate() {
         rows[ROW * i] = parent.child(i as u32 + 1).number;

@@ -4,7 +4,8 @@
 ghost use Rattle.std.specs.Prelude.{◌≡◌, length};
 ghost use Rattle.rules.specs.Machine.{pack, view};
 ghost use Rattle.evaluate.specs.Shown.{WritesFit};
-ghost use Rattle.step.specs.Planned.{Lent, PlanFit, LeafFit, ForkFit, MergeFit, UndoLeafFit, UndoForkFit, UndoMergeFit, writes_made, planned, leaf_made, fork_made, merge_made, undo_leaf_made, undo_fork_made, undo_merge_made};
+ghost use Rattle.step.specs.Planned.{Lent, PlanFit, LeafFit, ForkFit, MergeFit, UndoLeafFit, UndoForkFit, UndoMergeFit};
+ghost use Rattle.step.specs.Planned.{writes_made, planned, leaf_made, fork_made, merge_made, undo_leaf_made, undo_fork_made, undo_merge_made};
 
 use evaluate::Writes;
 use rules::{Names, Place};

@@ -1,3 +1,2 @@
 -- The laws of this crate.
 pub mod Rows
-pub mod Looking

@@ -13,7 +13,7 @@ use machine::{ROWS, STAGE};
 fn is_child(p: u32, q: u32) -> bool
     ensures { result ≡ is_child_of p q }
 {
-    q != Identifier::ROOT && Identifier { number: q }.parent().number == p
+    q != Identifier::ROOT && Identifier::from(q).parent() == Identifier::from(p)
 }
 
 // The row where the children of p stand, or would: the first whose identifier is at least that of child 1.
@@ -22,7 +22,7 @@ pub fn first_child(m: &[u32], p: u32) -> usize
     ensures { FirstFrom m.now (child p 1) result }
 {
     let live = m[0] as usize;
-    let from = Identifier { number: p }.children_from();
+    let from = Identifier::from(p).children_from();
     (0..live)
         .position(|i| from <= m[ROWS + 3 * i] as usize)
         .unwrap_or(live)

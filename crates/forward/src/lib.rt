@@ -37,7 +37,8 @@ fn leaf(m: &[u32], row: usize, into: u32, block: &Block) -> Result<Plan, Code>
 // A fork: there must be room for the children's rows.
 fn fork(m: &[u32], row: usize, into: u32, names: Names, exit: Exit) -> Result<Plan, Code>
     requires { Ready m.now row × NamesFit names × ExitFit exit × (process_at m.now row < 268435456) × (history_count m.now < 4096) }
-    ensures { (program : List Block) → (block_of program into).instruction ≡ Instruction.Call names → (block_of program into).exit ≡ exit → Plans m.now result (Rules.fork program (view m.now) (process_at m.now row) into) }
+    ensures { (program : List Block) → (block_of program into).instruction ≡ Instruction.Call names → (block_of program into).exit ≡ exit
+        → Plans m.now result (Rules.fork program (view m.now) (process_at m.now row) into) }
 {
     if MOST_ROWS < m[0] as usize + usize::from(names.count) {
         return Err(Code::NoRoom);
@@ -56,7 +57,8 @@ fn fork(m: &[u32], row: usize, into: u32, names: Names, exit: Exit) -> Result<Pl
 // The step of a process that has no children.
 fn childless(m: &[u32], row: usize, into: u32, block: &Block) -> Result<Plan, Code>
     requires { Ready m.now row × Apt m.now row block.now × (history_count m.now < 4096) }
-    ensures { (program : List Block) → block_of program into ≡ block.now → Plans m.now result (Rules.forward_childless program (view m.now) (process_at m.now row) (here_at m.now row) into) }
+    ensures { (program : List Block) → block_of program into ≡ block.now
+        → Plans m.now result (Rules.forward_childless program (view m.now) (process_at m.now row) (here_at m.now row) into) }
 {
     match step::call::call_of(block.instruction) {
         Some(names) => fork(m, row, into, names, block.exit),
@@ -67,7 +69,8 @@ fn childless(m: &[u32], row: usize, into: u32, block: &Block) -> Result<Plan, Co
 // `into` is the block whose entry holds the place of the row's process, and `block` that block; `out` the one whose exit does.
 pub fn forward(m: &[u32], row: usize, into: u32, out: u32, block: &Block) -> Result<Plan, Code>
     requires { Ready m.now row × Apt m.now row block.now }
-    ensures { (program : List Block) → into ≡ entry_block program (here_at m.now row) → out ≡ exit_block program (here_at m.now row) → block_of program into ≡ block.now → Plans m.now result (Rules.forward program (view m.now) (process_at m.now row) (here_at m.now row)) }
+    ensures { (program : List Block) → into ≡ entry_block program (here_at m.now row) → out ≡ exit_block program (here_at m.now row)
+        → block_of program into ≡ block.now → Plans m.now result (Rules.forward program (view m.now) (process_at m.now row) (here_at m.now row)) }
 {
     let process = Process::of_row(m, row);
     let p = process.identifier;

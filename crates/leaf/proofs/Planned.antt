@@ -52,7 +52,7 @@ side_stands memory (Side.Exit (Exit.Either e l m)) fit = after_holds Any Stands 
 side_stands memory (Side.Exit (Exit.End l)) fit = (fit, omega arith)
 
 step-stands : (memory : List ℕ) (here : Place) (from : Side) (i : Instruction) (to : Side) → SideFit to → Holds MovedStands (leaf_step memory here from i to)
-unfolding leaf_step present
+unfolding present
 step-stands memory here from i to fit =
     after_holds Any MovedStands _ _ (any (side_place memory from))
     (λ q _. pick-holds MovedStands _ _ _

@@ -20,6 +20,6 @@ side_place memory (Side.Exit e) = exit_place memory e
 abbrev pub leading : Tried Place → List ℕ → Tried Moved
 leading tried memory = after tried (λ q. made (moved_to q memory))
 
-unfoldable pub leaf_step : List ℕ → Place → Side → Instruction → Side → Tried Moved
+abbrev pub leaf_step : List ℕ → Place → Side → Instruction → Side → Tried Moved
 leaf_step memory here from i to =
     after (side_place memory from) (λ q. present here q (after (act memory i) (λ new. leading (side_place new to) new)))

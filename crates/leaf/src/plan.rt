@@ -21,7 +21,7 @@ pub struct Move {
 
 // The side that the step comes in by must give the present place; then the instruction acts; then the side that the step leaves by
 // gives the next place, on the new memory.
-#[tactic(auto, unfolding(rules::specs::Base::pick, rules::specs::Leaf::after, rules::specs::Leaf::present, evaluate::specs::Shown::written, crate::specs::Side::leaf_step))]
+#[tactic(auto, unfolding(rules::specs::Base::pick, rules::specs::Leaf::after, rules::specs::Leaf::present, evaluate::specs::Shown::written))]
 fn step(
     memory: &[u32],
     here: Place,
@@ -43,7 +43,7 @@ fn step(
 }
 
 // The entry's condition is evaluated on the present memory, the exit's on the new one.
-#[tactic(auto, unfolding(rules::specs::Machine::view, rules::specs::Leaf::leaf_forward, crate::specs::Side::side_place, crate::specs::Side::leaf_step))]
+#[tactic(auto, unfolding(rules::specs::Machine::view, rules::specs::Leaf::leaf_forward, crate::specs::Side::side_place))]
 pub fn forward(m: &[u32], here: Place, block: &Block) -> Result<Move, Code>
     requires { (length m.now ≡ machine_words) × BlockFit block.now }
     ensures shown { tried_as (moved (view m.now).memory) result ≡ leaf_forward (view m.now).memory here block.now }
@@ -55,7 +55,7 @@ pub fn forward(m: &[u32], here: Place, block: &Block) -> Result<Move, Code>
 }
 
 // The exit's condition is evaluated on the present memory, before the instruction is inverted; the entry's on the earlier one.
-#[tactic(auto, unfolding(rules::specs::Machine::view, rules::specs::Leaf::leaf_undo, crate::specs::Side::side_place, crate::specs::Side::leaf_step))]
+#[tactic(auto, unfolding(rules::specs::Machine::view, rules::specs::Leaf::leaf_undo, crate::specs::Side::side_place))]
 pub fn undo(m: &[u32], here: Place, block: &Block) -> Result<Move, Code>
     requires { (length m.now ≡ machine_words) × BlockFit block.now }
     ensures shown { tried_as (moved (view m.now).memory) result ≡ leaf_undo (view m.now).memory here block.now }

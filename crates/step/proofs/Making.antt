@@ -65,7 +65,8 @@ module _ (program : List Block) (m : Machine) (p b : ℕ) (names : Names) (c : (
   unfolding undo_merge pick
   crowded-merge h = rw (no_room h)
 
-  outside-fork : {code : ℕ} → length m.rows + length (named names) ≤ 64 → exit_place m.memory (block_of program b).exit ≡ refused code → refused code ≡ fork program m p b
+  outside-fork : {code : ℕ} → length m.rows + length (named names) ≤ 64 → exit_place m.memory (block_of program b).exit ≡ refused code
+      → refused code ≡ fork program m p b
   unfolding fork pick after
   outside-fork h e = rw (has_room h, e)
 
@@ -149,7 +150,9 @@ module _ (w : List ℕ) (row : ℕ) (r : Ready w row) where
     refuses-undo_leaf tried e = refuses-by h (ap (λ (t : Tried Moved). undo_leaf m p t) e)
 
   -- ---- children put in
-  module _ (program : List Block) (b : ℕ) (names : Names) (c : (block_of program b).instruction ≡ Instruction.Call names) (few : names.count ≤ 8) (eight : length names.labels ≡ 8) where
+  module _
+      (program : List Block) (b : ℕ) (names : Names) (c : (block_of program b).instruction ≡ Instruction.Call names)
+      (few : names.count ≤ 8) (eight : length names.labels ≡ 8) where
     counted : live_count w + names.count ≡ length m.rows + length (named names)
     counted = omega (arith, length-rows w, named_count names few eight)
 

@@ -95,7 +95,10 @@ unfolding row_at those pick
 same-many t [] j l s = refl
 same-many t (r ∷ rows) zero l s = go (t r.identifier)
   where
-    go : (b : Bool) → length (pick b (record { identifier = r.identifier; stands = place l s } ∷ those (λ r. t r.identifier) rows) (those (λ r. t r.identifier) rows))
+    rest : List Process
+    rest = those (λ r. t r.identifier) rows
+
+    go : (b : Bool) → length (pick b (record { identifier = r.identifier; stands = place l s } ∷ rest) rest)
         ≡ length (pick b (r ∷ those (λ r. t r.identifier) rows) (those (λ r. t r.identifier) rows))
     go true = refl
     go false = refl

@@ -28,7 +28,8 @@ use step::plan::Plan;
 fn newest_free(m: &[u32], masks: &Masks, p: u32) -> Option<usize>
     requires { BlocksBelow m.now 128 }
     ensures newest { IfSome result (λ i. NewestAt (view m.now).history p i) }
-    ensures free { (program : List Block) → MasksOf program masks.now → BlocksBelow m.now (length program) → holds program (view m.now).history p ≡ is_none result }
+    ensures free { (program : List Block) → MasksOf program masks.now → BlocksBelow m.now (length program)
+        → holds program (view m.now).history p ≡ is_none result }
 {
     let entry = cause::newest::newest(m, p)?;
     if cause::held::held(m, masks, entry) {
@@ -55,7 +56,8 @@ fn leaf(m: &[u32], row: usize, block: &Block, entry: usize) -> Result<Plan, Code
 // The undo of a merge: there must be room for the children's rows.
 fn merge(m: &[u32], row: usize, names: Names, entry: usize) -> Result<Plan, Code>
     requires { Ready m.now row × NamesFit names × (process_at m.now row < 268435456) × NewestAt (view m.now).history (process_at m.now row) entry }
-    ensures { (program : List Block) (b : ℕ) → (block_of program b).instruction ≡ Instruction.Call names → Plans m.now result (Rules.undo_merge program (view m.now) (process_at m.now row) b) }
+    ensures { (program : List Block) (b : ℕ) → (block_of program b).instruction ≡ Instruction.Call names
+        → Plans m.now result (Rules.undo_merge program (view m.now) (process_at m.now row) b) }
 {
     if MOST_ROWS < m[0] as usize + usize::from(names.count) {
         return Err(Code::NoRoom);
@@ -72,7 +74,8 @@ fn merge(m: &[u32], row: usize, names: Names, entry: usize) -> Result<Plan, Code
 // The undo of a process that has no children.
 fn childless(m: &[u32], row: usize, block: &Block, entry: usize) -> Result<Plan, Code>
     requires { Ready m.now row × Apt m.now row block.now × NewestAt (view m.now).history (process_at m.now row) entry }
-    ensures { (program : List Block) (b : ℕ) → block_of program b ≡ block.now → Plans m.now result (Rules.undo_childless program (view m.now) (process_at m.now row) (here_at m.now row) b) }
+    ensures { (program : List Block) (b : ℕ) → block_of program b ≡ block.now
+        → Plans m.now result (Rules.undo_childless program (view m.now) (process_at m.now row) (here_at m.now row) b) }
 {
     match step::call::call_of(block.instruction) {
         Some(names) => merge(m, row, names, entry),
@@ -82,8 +85,10 @@ fn childless(m: &[u32], row: usize, block: &Block, entry: usize) -> Result<Plan,
 
 // The undo of a fork: the process goes back to the entry label, and its children, all at begin, go.
 fn fork(m: &[u32], row: usize, block: &Block, count: usize, entry: usize) -> Result<Plan, Code>
-    requires { Ready m.now row × BlockFit block.now × (count ≡ length (children (view m.now).rows (process_at m.now row))) × NewestAt (view m.now).history (process_at m.now row) entry }
-    ensures { (program : List Block) (b : ℕ) → block_of program b ≡ block.now → Plans m.now result (Rules.undo_fork program (view m.now) (process_at m.now row) b) }
+    requires { Ready m.now row × BlockFit block.now × (count ≡ length (children (view m.now).rows (process_at m.now row)))
+        × NewestAt (view m.now).history (process_at m.now row) entry }
+    ensures { (program : List Block) (b : ℕ) → block_of program b ≡ block.now
+        → Plans m.now result (Rules.undo_fork program (view m.now) (process_at m.now row) b) }
 {
     let first = family::first_child(m, Process::of_row(m, row).identifier);
     let to = leaf::place::place_on(m, Side::Entry(block.entry))?;
@@ -99,7 +104,9 @@ fn fork(m: &[u32], row: usize, block: &Block, count: usize, entry: usize) -> Res
 // `block` is the block whose exit holds the place of the row's process; the masks are those of all blocks.
 pub fn undo(m: &[u32], masks: &Masks, row: usize, block: &Block) -> Result<Plan, Code>
     requires { Ready m.now row × Apt m.now row block.now × BlocksBelow m.now 128 }
-    ensures { (program : List Block) → MasksOf program masks.now → BlocksBelow m.now (length program) → block_of program (exit_block program (here_at m.now row)) ≡ block.now → Plans m.now result (Rules.undo program (view m.now) (process_at m.now row) (here_at m.now row)) }
+    ensures { (program : List Block) → MasksOf program masks.now → BlocksBelow m.now (length program)
+        → block_of program (exit_block program (here_at m.now row)) ≡ block.now
+        → Plans m.now result (Rules.undo program (view m.now) (process_at m.now row) (here_at m.now row)) }
 {
     let process = Process::of_row(m, row);
     let p = process.identifier;
