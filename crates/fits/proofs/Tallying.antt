@@ -4,7 +4,7 @@ use native.Mathlib.Nat.{not-suc-le-zero, le_of_suc-le-suc, add-zero}
 use native.Mathlib.Numerals.{add-one}
 use native.Mathlib.Omega.{arith}
 use mathlib.Core.Path.{◌≡◌, refl, sym, ap, ◌∙◌}
-use mathlib.Core.Bool.{Bool, true, false, ◌||◌}
+use mathlib.Core.Bool.{Bool, true, false}
 use mathlib.Core.List.{List, [], ◌∷◌}
 use lib.ListN.{length, take, get_or, set, replicate, length-set, length-take, length-replicate, get_or-replicate}
 use lib.Seq.{get_or-set_same, get_or-set_other, take_all}
@@ -113,8 +113,12 @@ module _ (w : List ℕ) (o : Ordered w) where
       k.each j l ∙ ap (λ (x : List Process). length (children x (get_or w (290 + 3 * j) 0))) (take_all i (view w).rows (omega arith))
 
 -- ---- the test of one row
-pub whole_is : (program : List Block) (w : List ℕ) (i children called : ℕ) (r : Bool)
-    → children ≡ length (Machine.children (view w).rows (get_or w (290 + 3 * i) 0)) → called ≡ length (called_at program (row_at w i).stands)
-    → r ≡ eqb children 0 || eqb children called → whole_family program (view w).rows (row_at w i) ≡ r
-unfolding whole_family
-whole_is program w i children called r e f q = sym (q ∙ rw (e, f))
+module _ (program : List Block) (w : List ℕ) (i children : ℕ) (e : children ≡ length (Machine.children (view w).rows (get_or w (290 + 3 * i) 0))) where
+  pub whole-none : children ≡ 0 → eqb children 0 ≡ whole_family program (view w).rows (row_at w i)
+  unfolding whole_family
+  whole-none z = rw (← e, eq-eqb children 0 z) refl
+
+  pub whole-some : (called : ℕ) → called ≡ length (called_at program (row_at w i).stands) → (children ≡ 0 → ⊥)
+      → eqb children called ≡ whole_family program (view w).rows (row_at w i)
+  unfolding whole_family
+  whole-some called f n = rw (← e, ne_eqb children 0 n, f) refl

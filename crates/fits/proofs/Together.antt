@@ -7,6 +7,11 @@ use mathlib.Core.Logic.{⊎_elim}
 use mathlib.Core.Option.{Option, none, some}
 use lib.ListN.{get_or}
 use lib.Dec.{eqb}
+use native.Mathlib.Omega.{arith}
+use borrow.Author.Tests.{lt-ltb, le-ltb}
+use Rattle.std.proofs.Common as Found
+use Rattle.std.specs.Option.{IfSome, is_some}
+use Rattle.laws.specs.Found.{or_else}
 use borrow.Author.Tests.{eqb-true, eqb-false}
 use Rattle.rules.specs.Base.{each_of}
 use Rattle.rules.specs.Machine.{Process, live_count, standing, view}
@@ -23,7 +28,7 @@ use Rattle.ordered.specs.Ordered.{in_order, Ordered}
 use Rattle.fits.specs.Rows.{rows_fit}
 use Rattle.fits.proofs.Families.{children-is}
 use Rattle.own.proofs.Owning.{own_root, own-child}
-use Rattle.ordered.proofs.Standing.{row_is, standing-found, standing-lost}
+use Rattle.ordered.proofs.Standing.{row_is, standing-found, standing-lost, live-is}
 use Rattle.ordered.proofs.Each.{rows_at, rows_true}
 
 -- two tests agree where each passes if the other does
@@ -32,6 +37,12 @@ agree true true f g = refl
 agree true false f g = sym (f refl)
 agree false true f g = g refl
 agree false false f g = refl
+
+-- ---- a process is live where it has a row
+pub found-live : (w : List ℕ) (p : ℕ) (r : Found.Option ℕ) → or_else r (live_count w) ≡ row_of w p → IfSome r (λ i. i < live_count w)
+    → is_some r ≡ is_live (standing (view w).rows p)
+found-live w p Found.None e l = sym (le-ltb _ _ (omega arith)) ∙ live-is w p
+found-live w p (Found.Some i) e l = sym (lt-ltb _ _ (omega arith)) ∙ live-is w p
 
 -- ---- a process that stands in its own process block has a live parent
 own-parent : (program : List Block) (w : List ℕ) (r : Process) → own_fits program (view w).rows r ≡ true → parent_fits (view w).rows r ≡ true

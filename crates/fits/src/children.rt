@@ -1,6 +1,6 @@
 // The children of each live process, counted: a process has none, or as many as the call at whose exit label it stands names. That
 // they are then that call's 1 to n follows from where each child stands and from the rows' order.
-ghost use Rattle.std.specs.Prelude.{◌≡◌, List, ℕ, ◌≤◌, ◌<◌, length, get_or};
+ghost use Rattle.std.specs.Prelude.{◌≡◌, List, ℕ, ◌≤◌, ◌<◌, get_or};
 ghost use Rattle.rules.specs.Base.{each_of};
 ghost use Rattle.rules.specs.Format.{most_blocks};
 ghost use Rattle.rules.specs.Machine.{live_count, view};
@@ -13,9 +13,9 @@ ghost use Rattle.fits.specs.Children.{OneMore, Tally, whole_family};
 
 use calls::Calls;
 use identifier::Identifier;
-use machine::ROWS;
 use machine::find::row_of;
-use own::{called_count, place_of};
+use machine::{LABEL, ROWS, STAGE};
+use own::called_at;
 use places::Places;
 
 // One more child of the process whose child the identifier is.
@@ -26,9 +26,8 @@ fn count_child(tally: &mut [u8; 64], m: &[u32], identifier: u32)
     if identifier == Identifier::ROOT {
         return;
     }
-    let parent = Identifier::from(identifier).parent();
-    if let Some(row) = row_of(m, parent.number) {
-        tally[row] += 1;
+    if let Some(parent) = row_of(m, Identifier::from(identifier).parent().number) {
+        tally[parent] += 1;
     }
 }
 
@@ -45,23 +44,19 @@ pub fn tally_of(m: &[u32]) -> [u8; 64]
 }
 
 // The process of row i has none of its call's children, or all.
-fn is_whole(m: &[u32], tally: &[u8; 64], places: &Places, calls: &Calls, i: usize) -> bool
+fn whole(m: &[u32], tally: &[u8; 64], places: &Places, calls: &Calls, i: usize) -> bool
     requires { Ordered m.now × (calls.now.count ≤ most_blocks) × Tally m.now tally.now × (i < live_count m.now) }
     ensures { (program : List Block) → Exits program places.now → CallsIn program calls.now → result ≡ whole_family program (view m.now).rows (row_at m.now i) }
 {
-    let called = called_count(places, calls, place_of(m, i));
-    tally[i] == 0 || tally[i] == called
+    let called = called_at(places, calls, m[LABEL + 3 * i], m[STAGE + 3 * i]);
+    tally[i] == 0 || usize::from(tally[i]) == called.len()
 }
 
-// Each live process has.
+// Each live process does.
 pub fn all_whole(m: &[u32], tally: &[u8; 64], places: &Places, calls: &Calls) -> bool
     requires { Ordered m.now × (calls.now.count ≤ most_blocks) × Tally m.now tally.now }
     ensures { (program : List Block) → Exits program places.now → CallsIn program calls.now → result ≡ each_of (whole_family program (view m.now).rows) (view m.now).rows }
 {
-    for i in 0..m[0] as usize {
-        if !is_whole(m, tally, places, calls, i) {
-            return false;
-        }
-    }
-    true
+    let live = m[0] as usize;
+    (0..live).all(|i| whole(m, tally, places, calls, i))
 }

@@ -19,11 +19,7 @@ pub fn fits(m: &[u32], places: &Places, calls: &Calls) -> bool
     requires { (length m.now ≡ 8674) × (calls.now.count ≤ most_blocks) }
     ensures { (program : List Block) → Tables program places.now calls.now → result ≡ Rules.fits program m.now }
 {
-    if !ordered::words::in_order(m) {
-        return false;
-    }
-    if !rows::rows_fit(m, places, calls) {
-        return false;
-    }
-    kept::all_kept(m, calls.count)
+    ordered::words::in_order(m)
+        && rows::rows_fit(m, places, calls)
+        && kept::all_kept(m, calls.count)
 }

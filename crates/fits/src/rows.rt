@@ -30,14 +30,8 @@ pub fn rows_fit(m: &[u32], places: &Places, calls: &Calls) -> bool
     requires { Ordered m.now × (calls.now.count ≤ most_blocks) }
     ensures { (program : List Block) → Tables program places.now calls.now → result ≡ rows_fit program (view m.now) }
 {
-    if !is_live(m, Identifier::ROOT) {
-        return false;
-    }
-    if !all_own(m, places, calls) {
-        return false;
-    }
-    if !all_whole(m, &tally_of(m), places, calls) {
-        return false;
-    }
-    all_newest(m, &newest_of(m), places)
+    is_live(m, Identifier::ROOT)
+        && all_own(m, places, calls)
+        && all_whole(m, &tally_of(m), places, calls)
+        && all_newest(m, &newest_of(m), places)
 }
