@@ -8,7 +8,7 @@ use Rattle.rules.specs.declared.Code.{Code}
 use Rattle.rules.specs.declared.Refused.{Refused}
 use Rattle.decode.specs.declared.program.Program.{Program}
 use Rattle.decode.specs.Blocks.{blocks_in}
-use Rattle.decode.specs.Shows.{Shows}
+use Rattle.decode.specs.Shows.{InFront, Shows}
 use Rattle.laws.specs.Fit.{Bytes, BlockFit}
 use Rattle.laws.proofs.Lists.{get_d_any}
 use Rattle.laws.proofs.Decoded.{fit}
@@ -44,6 +44,21 @@ pub shows_err : (x : Reading (List Block)) (code : Code) (place : ℕ) (r : Refu
     → r ≡ record { code = code; place = place }
     → Shows x (Err r)
 shows_err x code place r e f = rw (e, f) (refl, refl)
+
+-- the same of the blocks in front of an array
+pub in-front_err : (l : List Block) (x : Reading (List Block)) (code : Code) (place : ℕ) (r : Refused)
+    → x ≡ fault (number code) place
+    → r ≡ record { code = code; place = place }
+    → InFront l x (Err r)
+in-front_err l x code place r e f = rw (e, f) (refl, refl)
+
+pub err-in_front : (l : List Block) (x : Reading (List Block)) (r : Refused) → InFront l x (Err r) → Shows x (Err r)
+err-in_front l (got program at) r w = absurd w
+err-in_front l (fault code place) r w = w
+
+pub ok-in_front : (x : Reading (List Block)) (p : Program) → InFront p.blocks x (Ok p.count) → Shows x (Ok p)
+ok-in_front (got program at) p w = w.1
+ok-in_front (fault code place) p w = absurd w
 
 -- what a proof knows of a slice s: `slice_bytes s c.type_inv.s`
 pub slice_bytes : (s : List ℕ) → ((k : ℕ) → Fits w8 (get_or s k 0)) → Bytes s

@@ -23,7 +23,9 @@ fn pass(code: Code, bad: Option<usize>) -> Result<(), Refused>
     }
 }
 
-// Codes 9 to 15 on decoded blocks, one code at a time.
+// Codes 9 to 15 on decoded blocks, one code at a time. (Not inlined, so that its tables never lie on the stack beside those of
+// decoding.)
+#[inline(never)]
 pub fn judge_blocks(blocks: &[Block]) -> Result<Accepted, Refused>
     requires { length blocks.now ≤ most_blocks }
     ensures { judged result ≡ judged_blocks blocks.now }
