@@ -1,11 +1,15 @@
 -- The codes of a step on words, in their order, each by the tests that lead to it. Assumes nothing.
 use Prim.Native.Nat.{ℕ, ◌<◌, ◌≤◌}
+use native.Mathlib.Omega.{arith}
 use mathlib.Core.Path.{◌≡◌, refl, sym, ap, ◌∙◌, subst}
-use mathlib.Core.Bool.{true, false}
+use mathlib.Core.Bool.{Bool, true, false}
 use mathlib.Core.List.{List}
 use mathlib.Core.Option.{some}
 use lib.ListN.{length}
-use borrow.Author.Tests.{eq-eqb, ne_eqb, lt-ltb, le-ltb, eqb-true}
+use lib.Dec.{eqb}
+use borrow.Author.Tests.{eq-eqb, ne_eqb, lt-ltb, le-ltb, eqb-true, eqb-false}
+use Rattle.accepted.specs.Direction.{numbered, directed}
+use Rattle.accepted.specs.declared.direction.Direction.{Direction}
 use Rattle.rules.specs.Base.{pick}
 use Rattle.rules.specs.Machine.{Machine, standing, live_count, view}
 use Rattle.rules.specs.Fits.{fits}
@@ -13,18 +17,53 @@ use Rattle.rules.specs.Step.{forward, undo}
 use Rattle.rules.specs.Words.{Outcome, refuse, finished, step_of, step_at, step_in}
 use Rattle.rules.specs.declared.Block.{Block}
 use Rattle.rules.specs.declared.Place.{Place}
-use Rattle.laws.proofs.Tests.{true_false}
 use Rattle.machine.specs.RowOf.{row_of}
 use Rattle.ordered.proofs.Standing.{row_is, standing-found, standing-lost}
-use Rattle.step.specs.Planned.{Lent, planned}
+use Rattle.step.specs.Planned.{Lent, PlanFit}
 use Rattle.step.specs.Ready.{process_at, here_at, Plans}
 use Rattle.step.specs.declared.plan.Plan.{Plan}
 use Rattle.plans.specs.Known.{Finishes}
+use Rattle.std.specs.Prelude.{Result, Ok, Err, IfOk}
+use Rattle.rules.specs.Codes.{number}
+use Rattle.rules.specs.declared.Code.{Code}
 
 -- a refusal asks nothing of the words
-pub refusing : {w : List ℕ} {code : ℕ} {o : Outcome (List ℕ)} → refuse code 0 w ≡ o → Finishes w (Plan.Refused code) o
-unfolding planned
-refusing e = record { shown = e; committed = record { lent = λ h. absurd (true_false refl h); fit = tt } }
+pub refusing : {w : List ℕ} {code : Code} {o : Outcome (List ℕ)} → refuse (number code) 0 w ≡ o → Finishes w (Err code) o
+refusing e = record { shown = e; committed = tt }
+
+-- the direction of a number, and the numbers that have none
+ok-one : {x y : Direction} → ◌≡◌ {A = Result Direction Code} (Ok x) (Ok y) → x ≡ y
+ok-one e = cc
+
+ok-err : {x : Direction} {c : Code} → ◌≡◌ {A = Result Direction Code} (Ok x) (Err c) → ⊥
+ok-err e = cc
+
+pub a-direction : (d : ℕ) (x : Direction) → Ok x ≡ directed d → (d ≤ 1) × (numbered x ≡ d)
+a-direction d x e = go (eqb d 0) refl (eqb d 1) refl
+  where
+    go : (a : Bool) → eqb d 0 ≡ a → (b : Bool) → eqb d 1 ≡ b → (d ≤ 1) × (numbered x ≡ d)
+    go true p b q =
+        let z = eqb-true d 0 p in
+        let f : Ok x ≡ Ok Direction.Forward = rw p at e in
+        (omega (arith, z), ap numbered (ok-one f) ∙ sym z)
+    go false p true q =
+        let z = eqb-true d 1 q in
+        let f : Ok x ≡ Ok Direction.Undo = rw (p, q) at e in
+        (omega (arith, z), ap numbered (ok-one f) ∙ sym z)
+    go false p false q = absurd (ok-err (rw (p, q) at e))
+
+pub no-direction : (d : ℕ) (c : Code) → Err c ≡ directed d → 1 < d
+no-direction d c e = go (eqb d 0) refl (eqb d 1) refl
+  where
+    go : (a : Bool) → eqb d 0 ≡ a → (b : Bool) → eqb d 1 ≡ b → 1 < d
+    go true p b q = absurd (ok-err (sym (rw p at e)))
+    go false p true q = absurd (ok-err (sym (rw (p, q) at e)))
+    go false p false q = omega (arith, eqb-false d 0 p, eqb-false d 1 q)
+
+-- words that pass 17 are lent words
+lent_too : {w : List ℕ} (plan : Result Plan Code) → Lent w → IfOk plan (λ p. PlanFit p (view w)) → IfOk plan (λ p. Lent w × PlanFit p (view w))
+lent_too (Ok p) t f = (t, f)
+lent_too (Err c) t f = tt
 
 -- the direction picks the step
 module _ (program : List Block) (m : Machine) (p : ℕ) (here : Place) where
@@ -56,22 +95,20 @@ module _ (program : List Block) (w : List ℕ) (p d : ℕ) where
         unfolding step_in pick
         standing-in = rw (eq-eqb (length w) 8674 l, f, le-ltb 1 d h)
 
-        module _ (row : ℕ) (r : row ≡ row_of w p) where
-          pub code-18 : live_count w ≤ row → refuse 18 0 w ≡ step_in w p d program
-          code-18 n =
-              ap (step_at w program p d) (sym (standing-lost w p (subst (λ (x : ℕ). live_count w ≤ x) r n)))
-              ∙ standing-in
+        pub code-18 : live_count w ≡ row_of w p → refuse 18 0 w ≡ step_in w p d program
+        code-18 r = ap (step_at w program p d) (sym (standing-lost w p (omega (arith, r)))) ∙ standing-in
 
-          pub goes_on_with : (plan : Plan) → row < live_count w → Lent w → Plans w plan (step_of program (view w) (process_at w row) (here_at w row) d)
-              → Finishes w plan (step_in w p d program)
-          goes_on_with plan n t s =
-              let k : row_of w p < live_count w = subst (λ (x : ℕ). x < live_count w) r n in
-              let q : process_at w row ≡ p = ap (λ (x : ℕ). process_at w x) r ∙ eqb-true _ _ (row_is w p k) in
-              let here : standing (view w).rows p ≡ some (here_at w row) = standing-found w p k ∙ ap (λ (x : ℕ). some (here_at w x)) (sym r) in
-              record {
-                shown =
-                    ap (finished w) (s.shown ∙ ap (λ (x : ℕ). step_of program (view w) x (here_at w row) d) q)
-                    ∙ ap (step_at w program p d) (sym here)
-                    ∙ standing-in;
-                committed = record { lent = λ e. t; fit = s.fit };
-              }
+        pub goes_on_with :
+            (row : ℕ) (plan : Result Plan Code) → row ≡ row_of w p → row < live_count w → Lent w →
+            Plans w plan (step_of program (view w) (process_at w row) (here_at w row) d) → Finishes w plan (step_in w p d program)
+        goes_on_with row plan r n t s =
+            let k : row_of w p < live_count w = subst (λ (x : ℕ). x < live_count w) r n in
+            let q : process_at w row ≡ p = ap (λ (x : ℕ). process_at w x) r ∙ eqb-true _ _ (row_is w p k) in
+            let here : standing (view w).rows p ≡ some (here_at w row) = standing-found w p k ∙ ap (λ (x : ℕ). some (here_at w x)) (sym r) in
+            record {
+              shown =
+                  ap (finished w) (s.shown ∙ ap (λ (x : ℕ). step_of program (view w) x (here_at w row) d) q)
+                  ∙ ap (step_at w program p d) (sym here)
+                  ∙ standing-in;
+              committed = lent_too plan t s.fit;
+            }

@@ -1,56 +1,51 @@
 -- Each way out is one of Codes.
-use Rattle.std.proofs.Common.{take, sym, ◌∙◌, arith}
+use Rattle.std.proofs.Common.{sym, ap}
+use Rattle.rules.specs.Machine.{view}
+use Rattle.rules.specs.Words.{step_of}
+use Rattle.step.specs.Ready.{process_at, here_at}
+use Rattle.step.proofs.Making.{plans_at}
 use Rattle.plans.specs.Known.{Known}
 use Rattle.plans.proofs.Known.{lent, rows-64}
-use Rattle.accepted.proofs.Codes.{refusing, code-16, code-17, code-18, code-19, goes_on_with}
+use Rattle.accepted.proofs.Codes.{refusing, code-16, code-17, code-18, code-19, goes_on_with, a-direction, no-direction}
 use Rattle.accepted.proofs.plan_on.Goals as goal
 
 pub returns-then-m-ne-WORDS : goal.returns-then-m-ne-WORDS
 returns-then-m-ne-WORDS c =
     let s = c.args in
-    refusing (code-16 (take s.n s.blocks) s.m.now s.process s.direction c.if-m-ne-WORDS.true)
+    refusing (code-16 s.blocks.now s.m.now s.process s.direction c.if-m-ne-WORDS.true)
 
 pub returns-then-not-machine_fits : goal.returns-then-not-machine_fits
 returns-then-not-machine_fits c =
     let s = c.args in
-    refusing (code-17 (take s.n s.blocks) s.m.now s.process s.direction c.if-m-ne-WORDS.false
-    (sym c.machine_fits.ensures ∙ c.if-not-machine_fits.true))
+    refusing (code-17 s.blocks.now s.m.now s.process s.direction c.if-m-ne-WORDS.false (sym c.if-not-machine_fits.ensures))
 
-pub returns-then-direction-gt1 : goal.returns-then-direction-gt1
-returns-then-direction-gt1 c =
+pub row_of-requires : goal.row_of-requires
+row_of-requires c =
+    let s = c.args in
+    let known : Known s.blocks.now s.m.now =
+    record { sound = c.requires.0; long = c.if-m-ne-WORDS.false; fit = sym c.if-not-machine_fits.ensures } in
+    (known.long, rows-64 s.blocks.now s.m.now known)
+
+pub returns-in_default : goal.returns-in_default
+returns-in_default c =
     let s = c.args in
     refusing
-    (code-19 (take s.n s.blocks) s.m.now s.process s.direction c.if-m-ne-WORDS.false (sym c.machine_fits.ensures ∙ c.if-not-machine_fits.false)
-    c.if-direction-gt1.true)
+    (code-19 s.blocks.now s.m.now s.process s.direction c.if-m-ne-WORDS.false (sym c.if-not-machine_fits.ensures)
+    (no-direction s.direction _ c.in_default.ensures))
 
-pub row_of-row-requires : goal.row_of-row-requires
-row_of-row-requires c =
-    let s = c.args in
-    let program = take s.n s.blocks in
-    let known : Known program s.m.now =
-    record { sound = c.requires.0; long = c.if-m-ne-WORDS.false; fit = sym c.machine_fits.ensures ∙ c.if-not-machine_fits.false } in
-    (known.long, rows-64 program s.m.now known)
-
-pub returns-then-wide-row : goal.returns-then-wide-row
-returns-then-wide-row c =
+pub returns-in_default-row_of : goal.returns-in_default-row_of
+returns-in_default-row_of c =
     let s = c.args in
     refusing
-    (code-18 (take s.n s.blocks) s.m.now s.process s.direction c.if-m-ne-WORDS.false (sym c.machine_fits.ensures ∙ c.if-not-machine_fits.false)
-    c.if-direction-gt1.false _ c.row_of-row.ensures (omega arith))
-
-pub plan_of-requires : goal.plan_of-requires
-plan_of-requires c =
-    let s = c.args in
-    let program = take s.n s.blocks in
-    let known : Known program s.m.now =
-    record { sound = c.requires.0; long = c.if-m-ne-WORDS.false; fit = sym c.machine_fits.ensures ∙ c.if-not-machine_fits.false } in
-    (known, c.requires.1, omega arith, c.places_of-places.ensures.entries, c.places_of-places.ensures.exits)
+    (code-18 s.blocks.now s.m.now s.process s.direction c.if-m-ne-WORDS.false (sym c.if-not-machine_fits.ensures)
+    (a-direction s.direction _ c.in-Ok.ensures).0 c.in_default-row_of.ensures.row)
 
 pub returns : goal.returns
 returns c =
     let s = c.args in
-    let program = take s.n s.blocks in
-    let known : Known program s.m.now =
-    record { sound = c.requires.0; long = c.if-m-ne-WORDS.false; fit = sym c.machine_fits.ensures ∙ c.if-not-machine_fits.false } in
-    goes_on_with program s.m.now s.process s.direction known.long known.fit c.if-direction-gt1.false _ c.row_of-row.ensures _ (omega arith)
-    (lent program s.m.now known) c.plan_of.ensures
+    let w = s.m.now in
+    let program = s.blocks.now in
+    let known : Known program w = record { sound = c.requires.0; long = c.if-m-ne-WORDS.false; fit = sym c.if-not-machine_fits.ensures } in
+    let d = a-direction s.direction _ c.in-Ok.ensures in
+    goes_on_with program w s.process s.direction known.long known.fit d.0 _ _ c.in-Some.ensures.row c.in-Some.ensures.live (lent program w known)
+    (plans_at (ap (step_of program (view w) (process_at w c.in-Some.row) (here_at w c.in-Some.row)) d.1) c.plan_of.ensures)

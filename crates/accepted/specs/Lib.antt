@@ -1,0 +1,3 @@
+-- Definitions that the contracts on an accepted image cite.
+pub mod Direction
+pub mod Listed
