@@ -2,7 +2,6 @@
 use mathlib.Core.Path.{◌≡◌, refl, sym, ap, subst, ◌∙◌}
 use mathlib.Core.Bool.{Bool, true, false}
 use mathlib.Core.List.{List}
-use mathlib.Core.Logic.{⊎_elim}
 use Prim.Native.Nat.{ℕ, zero, suc, ◌+◌, ◌*◌, ◌/◌, ◌%◌, ◌^◌, ◌<◌, ◌≤◌, max}
 use native.Mathlib.Nat.{div-div-eq-div-mul, pow-succ', pow-zero, div-one}
 use native.Mathlib.Omega.{arith}
@@ -10,13 +9,10 @@ use native.Mathlib.Numerals.{add-one}
 use lib.Pow.{pow_mono}
 use mir.Val.{bool_byte}
 use lib.Bits.{bit_or, or_shr, or_step}
-use lib.ListN.{length, get_or, set, length-set}
-use lib.Seq.{get_or-set_same, get_or-set_other}
 use Rattle.rules.specs.Format.{most_blocks}
 use Rattle.rules.specs.Value.{flag}
 use Rattle.rules.specs.Calls.{Calling, reaches_over, reaches, bad14}
 use Rattle.laws.specs.CallTable.{calling_from}
-use Rattle.laws.proofs.Search.{lt-or_le}
 use Rattle.laws.proofs.CallTable.{calls-length}
 use Rattle.calls.specs.Grid.{bit_of, cell, Word, Joined, RowsDone, added, Reaching}
 use Rattle.laws.proofs.Tests.{flag-or_and}
@@ -77,38 +73,7 @@ pub joined_on : (row m row_of_m : ℕ) → bit_of row m ≡ 1 → Joined row m r
 joined_on row m row_of_m e =
     record { each = λ c. bit-or row row_of_m c ∙ (let s = bit-small row_of_m c in rw e (omega arith)) }
 
-pub joined_not : (row m row_of_m : ℕ) → bit_of row m ≡ 0 → Joined row m row_of_m row
-joined_not row m row_of_m e = record { each = λ c. rw e (omega arith) }
-
--- ---- rows
-pub rows_none : (f : ℕ → ℕ → ℕ) (grid : List ℕ) (n : ℕ) → RowsDone f grid n 0 grid
-rows_none f grid n = record { size = refl; done = λ x y l _. absurd (omega arith); rest = λ x _. refl }
-
--- a row more, that is right in its first n columns
-pub rows_more : (f : ℕ → ℕ → ℕ) (grid : List ℕ) (n b : ℕ) (mid : List ℕ) (v : ℕ) → b < length mid → RowsDone f grid n b mid
-    → ((y : ℕ) → y < n → bit_of v y ≡ f b y) → RowsDone f grid n (b + 1) (set mid b v)
-rows_more f grid n b mid v lb d e =
-    record {
-      size = length-set mid b v ∙ d.size;
-      done =
-          λ x y lx ly.
-          ⊎_elim (λ lt. ap (λ (w : ℕ). bit_of w y) (get_or-set_other mid b x v 0 (omega arith)) ∙ d.done x y lt ly)
-          (λ ge.
-          let q : x ≡ b = omega arith in
-          rw q (ap (λ (w : ℕ). bit_of w y) (get_or-set_same mid b v 0 lb) ∙ e y ly))
-          (lt-or_le x b);
-      rest = λ x lx. get_or-set_other mid b x v 0 (omega arith) ∙ d.rest x (omega arith);
-    }
-
--- a row that is not yet done, joined with row m as it was, has what block m adds
-pub row-added : (grid : List ℕ) (n m b : ℕ) (mid : List ℕ) (v : ℕ) → RowsDone (added grid m) grid n b mid
-    → Joined (get_or mid b 0) m (get_or grid m 0) v → (y : ℕ) → bit_of v y ≡ added grid m b y
-row-added grid n m b mid v h j y = rw (← h.rest b (omega arith)) (j.each y)
-
 -- ---- what is reached
-pub reaching_none : (t : Calling) (n : ℕ) (grid new : List ℕ) → RowsDone (λ b c. flag (reaches_over t 0 b c)) grid n n new → Reaching t n 0 new
-reaching_none t n grid new d = record { each = d.done }
-
 -- the rows tell what is reached over one block more
 pub reaching_more : (t : Calling) (n m : ℕ) (grid new : List ℕ) → m < n → Reaching t n m grid
     → RowsDone (added grid m) grid n n new → Reaching t n (m + 1) new

@@ -101,9 +101,6 @@ read_set {A} xs i j x d = ⊎_elim (λ e. at e (lt-or_le i (length xs))) (λ ne.
         inr (get_or_past (set xs i x) j d (omega arith) ∙ sym (get_or_past xs j d (omega arith)))
 
 module _ (t : Calling) (memo : List (List (Option ℕ))) (h : Memo t memo) (levels l left : ℕ) (at : suc left ≡ levels) where
-  pub memo_read : (v : ℕ) → get_or (get_or memo left []) l None ≡ Some v → v ≡ capped (peak_within t levels l)
-  memo_read v e = h.right left l v e ∙ ap (λ (k : ℕ). capped (peak_within t k l)) at
-
   pub memo_write : (v : ℕ) → v ≡ capped (peak_within t levels l) → Memo t (set memo left (set (get_or memo left []) l (Some v)))
   memo_write v p = record { right = λ levels' l' v' e. row levels' l' v' e (read_set memo left levels' (set (get_or memo left []) l (Some v)) []) }
     where

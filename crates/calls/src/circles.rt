@@ -82,10 +82,5 @@ pub fn fourteen(calls: &Calls) -> Option<usize>
 {
     let mut grid = [0u128; BLOCKS];
     closed(calls, &mut grid);
-    for b in 0..calls.count {
-        if has(grid[b], b) {
-            return Some(b);
-        }
-    }
-    None
+    (0..calls.count).find(|b| has(grid[*b], *b))
 }

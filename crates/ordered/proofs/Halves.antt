@@ -5,8 +5,7 @@ use mathlib.Core.Path.{◌≡◌, refl, sym, ◌∙◌}
 use mathlib.Core.Bool.{Bool, true, false}
 use mathlib.Core.List.{List}
 use mathlib.Core.Logic.{⊎_elim}
-use lib.ListN.{length, get_or, set, replicate, length-set, length-replicate, get_or-replicate}
-use lib.Seq.{get_or-set_same, get_or-set_other}
+use lib.ListN.{length, get_or, replicate, length-replicate, get_or-replicate}
 use lib.Dec.{eqb, ltb}
 use borrow.Author.Tests.{eq-eqb, ne_eqb, eqb-true, eqb-false, ltb-true, ltb-false}
 use Rattle.rules.specs.Base.{pick}
@@ -31,23 +30,6 @@ module _ (w : List ℕ) where
         rows = λ i h. absurd (omega arith);
         past = λ i h k. get_or-replicate {A = ℕ} 64 i 4294967295 0 k;
       }
-
-  pub laid_more : (n : ℕ) (ids : List ℕ) → n < 64 → Laid w n ids → Laid w (n + 1) (set ids n (get_or w (290 + 3 * n) 0))
-  laid_more n ids l h =
-      record {
-        size = length-set ids n (get_or w (290 + 3 * n) 0) ∙ h.size;
-        rows = λ i k. go i (eqb i n) refl k;
-        past = λ i k s. get_or-set_other ids n i (get_or w (290 + 3 * n) 0) 0 (λ e. omega arith) ∙ h.past i (omega arith) s;
-      }
-    where
-      go : (i : ℕ) (b : Bool) → eqb i n ≡ b → i < n + 1 → get_or (set ids n (get_or w (290 + 3 * n) 0)) i 0 ≡ get_or w (290 + 3 * i) 0
-      go i true e k = let z = h.size in rw (eqb-true i n e) (get_or-set_same ids n (get_or w (290 + 3 * n) 0) 0 (omega arith))
-      go i false e k =
-          let f = eqb-false i n e in
-          get_or-set_other ids n i (get_or w (290 + 3 * n) 0) 0 f ∙ h.rows i (omega arith)
-
-  pub laid_all : (n : ℕ) (ids : List ℕ) → n ≡ live_count w → Laid w n ids → Identifiers w ids
-  laid_all n ids e h = record { rows = λ i l. h.rows i (omega arith); past = λ i l k. h.past i (omega arith) k }
 
 pub step-le : (b : Bool) (s half : ℕ) → s ≡ pick b half 0 → s ≤ half
 unfolding pick

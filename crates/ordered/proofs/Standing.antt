@@ -13,7 +13,7 @@ use borrow.Author.Tests.{lt-ltb, le-ltb, eq-eqb, ne_eqb, eqb-true, eqb-false}
 use Rattle.rules.specs.Base.{pick, lowest_from, lowest}
 use Rattle.rules.specs.Machine.{Process, standing, live_count, view}
 use Rattle.rules.specs.Fits.{is_live}
-use Rattle.laws.proofs.Search.{lt-or_le, lowest-is}
+use Rattle.laws.proofs.Search.{lt-or_le, lowest-is, lowest-found}
 use Rattle.laws.proofs.View.{row_at, no_row, row-at, length-rows}
 use Rattle.machine.specs.RowOf.{row_of}
 use Rattle.ordered.specs.Ordered.{Ordered}
@@ -30,16 +30,6 @@ module _ (p : ℕ → Bool) where
       go true h = omega arith
       go false h = omega arith
 
-  from-holds : (n at : ℕ) → lowest_from p n at < at + n → p (lowest_from p n at) ≡ true
-  unfolding lowest_from pick
-  from-holds zero at l = absurd (omega arith)
-  from-holds (suc n) at l = go (p at) refl (λ k. from-holds n (suc at) k) l
-    where
-      go : (b : Bool) → p at ≡ b → (lowest_from p n (suc at) < suc at + n → p (lowest_from p n (suc at)) ≡ true)
-          → pick b at (lowest_from p n (suc at)) < at + suc n → p (pick b at (lowest_from p n (suc at))) ≡ true
-      go true e h k = e
-      go false e h k = h (omega arith)
-
   from-fails : (n at k : ℕ) → at ≤ k → k < lowest_from p n at → p k ≡ false
   unfolding lowest_from pick
   from-fails zero at k h l = absurd (omega arith)
@@ -52,10 +42,6 @@ module _ (p : ℕ → Bool) where
   pub lowest-le : (n : ℕ) → lowest p n ≤ n
   unfolding lowest
   lowest-le n = omega (arith, from_le n 0)
-
-  lowest-holds : (n : ℕ) → lowest p n < n → p (lowest p n) ≡ true
-  unfolding lowest
-  lowest-holds n l = from-holds n 0 (omega arith)
 
   lowest-fails : (n k : ℕ) → k < lowest p n → p k ≡ false
   unfolding lowest
@@ -76,13 +62,9 @@ module _ (p : ℕ) (d : Process) where
   standing-nowhere (a ∷ rows) f = rw (f 0 (omega arith)) (standing-nowhere rows (λ k s. f (suc k) (omega arith)))
 
 module _ (w : List ℕ) (p : ℕ) where
-  pub row-le : row_of w p ≤ live_count w
-  unfolding row_of
-  row-le = lowest-le _ (live_count w)
-
   pub row_is : row_of w p < live_count w → eqb (get_or w (290 + 3 * row_of w p) 0) p ≡ true
   unfolding row_of
-  row_is l = lowest-holds (λ i. eqb (get_or w (290 + 3 * i) 0) p) (live_count w) l
+  row_is l = lowest-found (λ i. eqb (get_or w (290 + 3 * i) 0) p) (live_count w) l
 
   pub row-not : (k : ℕ) → k < row_of w p → eqb (get_or w (290 + 3 * k) 0) p ≡ false
   unfolding row_of

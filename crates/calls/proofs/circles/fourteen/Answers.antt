@@ -1,17 +1,15 @@
 -- The block found is the lowest on a circle.
-use Rattle.std.proofs.Common.{◌∙◌, arith, below_more}
-use Rattle.calls.proofs.Grid.{diagonal}
-use Rattle.calls.proofs.Found.{found_here, found_none}
+use Rattle.std.proofs.Common.{◌≡◌, arith, rules, tests}
+use Rattle.std.proofs.lemmas.Grind.{common_steps}
+use Rattle.std.proofs.lemmas.List.{get_or_read}
+use Rattle.std.proofs.lemmas.Iterator.{first_from_Range}
+use Rattle.calls.specs.Grid.{cell}
+use Rattle.calls.proofs.Found.{found-circle}
 use Rattle.calls.proofs.circles.fourteen.Goals as goal
 
-pub returns-then-has : goal.returns-then-has
-returns-then-has c =
-    found_here _ _ _ (omega arith) c.loop-b.invariant
-    (diagonal _ _ _ _ _ c.loop-b.b _ c.closed.ensures (omega arith) c.has.ensures ∙ c.if-has.true)
-
-pub loop-b-preserved : goal.loop-b-preserved
-loop-b-preserved c =
-    below_more _ _ c.loop-b.invariant (diagonal _ _ _ _ _ c.loop-b.b _ c.closed.ensures (omega arith) c.has.ensures ∙ c.if-has.false)
-
 pub returns : goal.returns
-returns c = found_none _ _ (λ k l. c.loop-b.invariant k (omega arith))
+returns c =
+    let grid = c.closed.new.grid in
+    found-circle _ _ _ _ grid c.closed.ensures _
+    (first_from_Range _ _ _ _ (λ b. cell grid b b ≡ 1) (λ b. cell grid b b ≡ 0) c.find.ensures.ran
+    (λ b q k. grind (arith, common_steps, tests, get_or_read)) (λ b q k. (search rules, grind (arith, common_steps, tests, get_or_read))))
