@@ -9,7 +9,8 @@ ghost use Rattle.calls.specs.Peaks.{over, levels_tried, capped, peak_within, Mem
 
 use super::Calls;
 
-// One row more than the machine has. It stays in here, where it caps a sum.
+// One row more than the machine has.
+// Stays: it caps a sum, which then says no more than that it is over (document 01, code 15).
 const OVER: u8 = 65;
 
 const LEVELS: usize = 9;
