@@ -46,7 +46,8 @@ module _ (m : Machine) (s : Sized m) where
       let wr : length (pack_rows m.rows) ≡ 3 * live = length-pack_rows m.rows in
       let lf : length F ≡ 290 = length_front m s in
       let rows : m.rows ≡ A ++ (X ++ B) =
-      sym (take-append-drop i m.rows) ∙ ap (λ (l : List Process). A ++ l) (sym (take-append-drop n (drop i m.rows)) ∙ ap (λ (l : List Process). X ++ l) (drop-drop n i m.rows)) in
+      sym (take-append-drop i m.rows)
+      ∙ ap (λ (l : List Process). A ++ l) (sym (take-append-drop n (drop i m.rows)) ∙ ap (λ (l : List Process). X ++ l) (drop-drop n i m.rows)) in
       let split : pack_rows m.rows ≡ pack_rows A ++ (pack_rows X ++ pack_rows B) =
       ap pack_rows rows ∙ pack_rows-append A (X ++ B) ∙ ap (λ (l : List ℕ). pack_rows A ++ l) (pack_rows-append X B) in
       let cut : pack m ≡ F ++ pack_rows A ++ (pack_rows X ++ pack_rows B ++ (zeros z ++ H)) =
@@ -63,7 +64,9 @@ module _ (m : Machine) (s : Sized m) where
       let lab : length (A ++ B) ≡ live - n = length-append A B ∙ omega arith in
       let zz : 192 - length (pack_rows (A ++ B)) ≡ 3 * n + z = omega (arith, length-pack_rows (A ++ B), s.rows64) in
       ap (λ (r : List ℕ). set (splice (pack m) (290 + 3 * i) (r ++ zeros (3 * n)) (290 + 3 * live)) 0 (live - n)) body
-      ∙ ap (λ (r : List ℕ). set r 0 (live - n)) (mid (pack m) (F ++ pack_rows A) (pack_rows X ++ pack_rows B) (zeros z ++ H) (pack_rows B ++ zeros (3 * n)) (290 + 3 * i) (290 + 3 * live) cut l1 l3)
+      ∙ ap (λ (r : List ℕ). set r 0 (live - n))
+      (mid (pack m) (F ++ pack_rows A) (pack_rows X ++ pack_rows B) (zeros z ++ H) (pack_rows B ++ zeros (3 * n)) (290 + 3 * i) (290 + 3 * live)
+      cut l1 l3)
       ∙ ap (λ (r : List ℕ). (live - n) ∷ length m.history ∷ r) (join T (pack_rows A) (pack_rows B) (3 * n) z H)
       ∙ ap₂ (λ (r : List ℕ) (k : ℕ). (live - n) ∷ length m.history ∷ (T ++ (r ++ zeros k) ++ H)) (sym ab) (sym zz)
       ∙ ap (λ (k : ℕ). k ∷ length m.history ∷ (T ++ (pack_rows (A ++ B) ++ zeros (192 - length (pack_rows (A ++ B)))) ++ H)) (sym lab)
@@ -105,7 +108,9 @@ module _ (m : Machine) (s : Sized m) where
       let body : take (3 * (live - i)) (drop (290 + 3 * i) (pack m)) ≡ pack_rows B =
       part_at (pack m) (F ++ pack_rows A) (pack_rows B) (zeros (3 * n) ++ (zeros z ++ H)) (290 + 3 * i) (3 * (live - i)) cut' l1 (omega arith) in
       let l3 : 290 + 3 * i + length (pack_rows B ++ zeros (3 * n)) ≡ 290 + 3 * (live + n) =
-      ap (λ (j : ℕ). 290 + 3 * i + j) (length-append (pack_rows B) (zeros (3 * n)) ∙ ap (λ (j : ℕ). length (pack_rows B) + j) (length-replicate (3 * n) 0)) ∙ omega arith in
+      ap (λ (j : ℕ). 290 + 3 * i + j)
+      (length-append (pack_rows B) (zeros (3 * n)) ∙ ap (λ (j : ℕ). length (pack_rows B) + j) (length-replicate (3 * n) 0))
+      ∙ omega arith in
       let rows : List Process = A ++ new ++ B in
       let wn : pack_rows rows ≡ pack_rows A ++ pack_rows new ++ pack_rows B =
       pack_rows-append (A ++ new) B ∙ ap (λ (l : List ℕ). l ++ pack_rows B) (pack_rows-append A new) in
@@ -113,7 +118,8 @@ module _ (m : Machine) (s : Sized m) where
       let zz : 192 - length (pack_rows rows) ≡ z = omega (arith, length-pack_rows rows) in
       ap (λ (r : List ℕ). set (splice (pack m) (290 + 3 * i) (pack_rows new ++ r) (290 + 3 * (live + n))) 0 (live + n)) body
       ∙ ap (λ (r : List ℕ). set r 0 (live + n))
-      (mid (pack m) (F ++ pack_rows A) (pack_rows B ++ zeros (3 * n)) (zeros z ++ H) (pack_rows new ++ pack_rows B) (290 + 3 * i) (290 + 3 * (live + n)) cut l1 l3)
+      (mid (pack m) (F ++ pack_rows A) (pack_rows B ++ zeros (3 * n)) (zeros z ++ H) (pack_rows new ++ pack_rows B) (290 + 3 * i)
+      (290 + 3 * (live + n)) cut l1 l3)
       ∙ ap (λ (r : List ℕ). (live + n) ∷ length m.history ∷ r) (re5 T (pack_rows A) (pack_rows new) (pack_rows B) (zeros z) H)
       ∙ ap₂ (λ (r : List ℕ) (j : ℕ). (live + n) ∷ length m.history ∷ (T ++ (r ++ zeros j) ++ H)) (sym wn) (sym zz)
       ∙ ap (λ (j : ℕ). j ∷ length m.history ∷ (T ++ (pack_rows rows ++ zeros (192 - length (pack_rows rows))) ++ H)) (sym ln)

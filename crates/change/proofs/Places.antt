@@ -124,7 +124,8 @@ module _ (m : Machine) (s : Sized m) where
       ∙ mid (pack m) (F ++ pack_history A) (X ++ pack_history B) (zeros z) (pack_history B ++ zeros 2) (482 + 2 * i) (482 + 2 * n) cut at (omega arith) in
       ap (λ (r : List ℕ). set r 1 (n - 1)) moves
       ∙ ap (λ (r : List ℕ). length m.rows ∷ (n - 1) ∷ r) (slide T (pack_history A) (pack_history B) 2 z)
-      ∙ rejoin (length m.rows) (n - 1) (length (A ++ B)) T (pack_history A) (pack_history B) (pack_history (A ++ B)) (2 + z) (8192 - length (pack_history (A ++ B)))
+      ∙ rejoin (length m.rows) (n - 1) (length (A ++ B)) T (pack_history A) (pack_history B) (pack_history (A ++ B)) (2 + z)
+      (8192 - length (pack_history (A ++ B)))
       (omega (arith, length-append A B))
       (sym (pack_history-append A B))
       (omega (arith, length-pack_history (A ++ B), length-append A B, s.history4096))

@@ -88,7 +88,8 @@ module _ (p hi : ℕ) (d : Process) where
     where
       go : (b : Bool) → is_child_of p r.identifier ≡ b
           → ((l : ℕ) → l ≤ hi
-          → ((i : ℕ) → i < length rows → is_child_of p (get_or rows i d).identifier ≡ true → (l ≤ (get_or rows i d).identifier) × ((get_or rows i d).identifier < hi))
+          → ((i : ℕ) → i < length rows → is_child_of p (get_or rows i d).identifier ≡ true
+          → (l ≤ (get_or rows i d).identifier) × ((get_or rows i d).identifier < hi))
           → Climbs l hi (map (λ x. x.identifier) (those (λ x. is_child_of p x.identifier) rows)))
           → Climbs lo hi (map (λ x. x.identifier) (pick b (r ∷ those (λ x. is_child_of p x.identifier) rows) (those (λ x. is_child_of p x.identifier) rows)))
       go true e k =
@@ -130,7 +131,8 @@ module _ (program : List Block) (w : List ℕ) (o : Ordered w) (own : each_of (o
       let s : child_label program (standing (view w).rows (q / 16)) (q % 16) ≡ nth (called_at program (row_at w j).stands) (q % 16) =
       ap (λ (x : Option Place). child_label program x (q % 16)) (ap (standing (view w).rows) e ∙ parent-stands) in
       let t : stands_in_some program (nth (called_at program (row_at w j).stands) (q % 16)) (row_at w i).stands ≡ true =
-      sym (ap (λ (x : Option ℕ). stands_in_some program x (row_at w i).stands) (own-child program w q f ∙ s)) ∙ rows_at w (own_fits program (view w).rows) own i k in
+      sym (ap (λ (x : Option ℕ). stands_in_some program x (row_at w i).stands) (own-child program w q f ∙ s))
+      ∙ rows_at w (own_fits program (view w).rows) own i k in
       let r = nth-range program (called_at program (row_at w j).stands) (q % 16) (row_at w i).stands t in
       let m : 16 * (q / 16) + q % 16 ≡ q = omega arith in
       (omega (arith, r.0), omega (arith, r.1))

@@ -103,7 +103,9 @@ module _ (w : List ℕ) (o : Ordered w) where
             ∙ ap (λ (x : ℕ). x + pick (is_child_of (get_or w (290 + 3 * j) 0) (get_or w (290 + 3 * i) 0)) 1 0) (k.each j h)
             ∙ sym
             (those-more (λ r. is_child_of (get_or w (290 + 3 * j) 0) r.identifier) (view w).rows i no_row (omega arith)
-            ∙ ap (λ (r : Process). length (those (λ x. is_child_of (get_or w (290 + 3 * j) 0) x.identifier) (take i (view w).rows)) + pick (is_child_of (get_or w (290 + 3 * j) 0) r.identifier) 1 0)
+            ∙ ap
+            (λ (r : Process). length (those (λ x. is_child_of (get_or w (290 + 3 * j) 0) x.identifier) (take i (view w).rows))
+            + pick (is_child_of (get_or w (290 + 3 * j) 0) r.identifier) 1 0)
             (row-at w i l));
       }
 

@@ -16,7 +16,8 @@ use borrow.Author.Tests.{eqb-true, eqb-false}
 use Rattle.rules.specs.Base.{each_of}
 use Rattle.rules.specs.Machine.{Process, live_count, standing, view}
 use Rattle.rules.specs.Fits as Rules
-use Rattle.rules.specs.Fits.{counts_fit, unused_zero, ascending, is_live, root_in, root_fits, parent_fits, child_label, stands_in_some, own_fits, children_fit, newest_fits, row_fits, kept_fits, machine_fits}
+use Rattle.rules.specs.Fits.{counts_fit, unused_zero, ascending, is_live, root_in, root_fits, parent_fits, child_label, stands_in_some}
+use Rattle.rules.specs.Fits.{own_fits, children_fit, newest_fits, row_fits, kept_fits, machine_fits}
 use Rattle.rules.specs.declared.Block.{Block}
 use Rattle.rules.specs.declared.Place.{Place}
 use Rattle.laws.proofs.Tests.{and-true, true_and, true_false}

@@ -55,7 +55,8 @@ fn whole(m: &[u32], tally: &[u8; 64], places: &Places, calls: &Calls, i: usize) 
 // Each live process does.
 pub fn all_whole(m: &[u32], tally: &[u8; 64], places: &Places, calls: &Calls) -> bool
     requires { Ordered m.now × (calls.now.count ≤ most_blocks) × Tally m.now tally.now }
-    ensures { (program : List Block) → Exits program places.now → CallsIn program calls.now → result ≡ each_of (whole_family program (view m.now).rows) (view m.now).rows }
+    ensures { (program : List Block) → Exits program places.now → CallsIn program calls.now
+        → result ≡ each_of (whole_family program (view m.now).rows) (view m.now).rows }
 {
     let live = m[0] as usize;
     (0..live).all(|i| whole(m, tally, places, calls, i))

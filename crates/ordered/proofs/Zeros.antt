@@ -44,7 +44,9 @@ module _ (w : List ℕ) (long : length w ≡ 8674) (rows : live_count w ≤ 64) 
       let l : length (drop (482 + 2 * K) w) ≡ length w - (482 + 2 * K) = length-drop (482 + 2 * K) w in
       let e : 192 - 3 * L ≡ 482 - (290 + 3 * L) = omega arith in
       let r : drop (3 * L) (take 192 (drop 290 w)) ≡ take (482 - (290 + 3 * L)) (drop (290 + 3 * L) w) =
-      drop-take (3 * L) 192 (drop 290 w) ∙ ap (λ (x : List ℕ). take (192 - 3 * L) x) (drop-drop (3 * L) 290 w) ∙ ap (λ (j : ℕ). take j (drop (290 + 3 * L) w)) e in
+      drop-take (3 * L) 192 (drop 290 w)
+      ∙ ap (λ (x : List ℕ). take (192 - 3 * L) x) (drop-drop (3 * L) 290 w)
+      ∙ ap (λ (j : ℕ). take j (drop (290 + 3 * L) w)) e in
       let h : drop (2 * K) (drop 482 w) ≡ take (8674 - (482 + 2 * K)) (drop (482 + 2 * K) w) =
       drop-drop (2 * K) 482 w ∙ sym (take_all (8674 - (482 + 2 * K)) (drop (482 + 2 * K) w) (omega arith)) in
       rw (r, h)
