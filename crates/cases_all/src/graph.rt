@@ -1,156 +1,101 @@
 // The cause graph of a machine's history, a line for each kept step: its process, how many earlier entries the process has, and its
 // edges by resource, each from the last step before it that writes the resource.
-ghost use Rattle.std.specs.Prelude.{◌≤◌, take};
+ghost use Rattle.std.specs.Prelude.{◌≤◌, length};
 ghost use Rattle.theorems.specs.Program.{Sound};
 
-use rules::{Block, Judgement};
+use crate::{print, words};
+use masks::Masks;
+use rules::{Block, Refused};
 
 // The word of entry i that holds its process.
 fn entry_word(i: usize) -> usize {
-    if i < 4096 {
-        return 482 + 2 * i;
-    }
-    482
+    if i < 4096 { 482 + 2 * i } else { 482 }
 }
 
 fn process_of(machine: &[u32], i: usize) -> u32 {
-    super::words::get(machine, entry_word(i))
+    words::get(machine, entry_word(i))
 }
 
 // The mask of entry i's block.
 fn mask_of(machine: &[u32], masks: &[u64; 128], i: usize) -> u64 {
-    let block = super::words::get(machine, super::words::moved(entry_word(i), 1));
-    let b = super::words::index(block);
-    if b < 128 {
-        return masks[b];
-    }
-    0
+    let block = words::get(machine, words::moved(entry_word(i), 1));
+    masks.get(block as usize).copied().unwrap_or(0)
 }
 
 fn has(mask: u64, resource: u32) -> bool {
-    if resource < 64 {
-        return (mask >> resource) % 2 == 1;
-    }
-    false
-}
-
-fn one_more(n: u32) -> u32 {
-    if n < 65536 {
-        return n + 1;
-    }
-    n
-}
-
-// One more where entry j is of the process.
-fn counted(machine: &[u32], process: u32, j: usize, n: u32) -> u32 {
-    if process_of(machine, j) == process {
-        return one_more(n);
-    }
-    n
+    resource < 64 && (mask >> resource) % 2 == 1
 }
 
 // How many entries before i are of its process.
 fn number_of(machine: &[u32], i: usize) -> u32 {
     let process = process_of(machine, i);
-    let mut n = 0;
-    let mut j = 0;
-    while j < i {
-        n = counted(machine, process, j, n);
-        j += 1;
-    }
-    n
+    let before = (0..i).filter(|j| process_of(machine, *j) == process);
+    before.count().min(65536) as u32
 }
 
 fn node(machine: &[u32], i: usize) {
-    super::print::hexadecimal(process_of(machine, i));
-    super::print::decimal(number_of(machine, i));
+    print::hexadecimal(process_of(machine, i));
+    print::decimal(number_of(machine, i));
 }
 
-// One past entry j where it writes the resource, else what was found before.
-fn chosen(machine: &[u32], writes: &[u64; 128], resource: u32, j: usize, found: usize) -> usize {
-    if has(mask_of(machine, writes, j), resource) {
-        return super::words::moved(j, 1);
-    }
-    found
-}
-
-// One past the last entry before i that writes the resource; 0 where there is none.
-fn last_writer(machine: &[u32], writes: &[u64; 128], i: usize, resource: u32) -> usize {
-    let mut found = 0;
-    let mut j = 0;
-    while j < i {
-        found = chosen(machine, writes, resource, j, found);
-        j += 1;
-    }
-    found
+// The last entry before i that writes the resource.
+fn last_writer(machine: &[u32], writes: &[u64; 128], i: usize, resource: u32) -> Option<usize> {
+    (0..i)
+        .rev()
+        .find(|j| has(mask_of(machine, writes, *j), resource))
 }
 
 // Where an edge comes from: the last writer, or the start mark.
 fn source(machine: &[u32], writes: &[u64; 128], i: usize, resource: u32) {
-    let found = last_writer(machine, writes, i, resource);
-    if found == 0 {
-        super::print::start_mark();
-        return;
-    }
-    node(machine, found - 1);
-}
-
-fn edge(machine: &[u32], reads: &[u64; 128], writes: &[u64; 128], i: usize, resource: u32) {
-    if has(mask_of(machine, writes, i), resource) {
-        super::print::letter(b' ');
-        super::print::letter(b'W');
-        super::print::decimal(resource);
-        source(machine, writes, i, resource);
-        return;
-    }
-    if has(mask_of(machine, reads, i), resource) {
-        super::print::letter(b' ');
-        super::print::letter(b'R');
-        super::print::decimal(resource);
-        source(machine, writes, i, resource);
+    match last_writer(machine, writes, i, resource) {
+        Some(j) => node(machine, words::moved(j, 1).saturating_sub(1)),
+        None => print::start_mark(),
     }
 }
 
-fn line(machine: &[u32], reads: &[u64; 128], writes: &[u64; 128], i: usize) {
-    super::print::letter(b'N');
+// An edge of a kind: W where the step writes the resource, R where it only reads it.
+fn edge_of(machine: &[u32], writes: &[u64; 128], kind: u8, i: usize, resource: u32) {
+    print::letter(b' ');
+    print::letter(kind);
+    print::decimal(resource);
+    source(machine, writes, i, resource);
+}
+
+fn edge(machine: &[u32], masks: &Masks, i: usize, resource: u32) {
+    if has(mask_of(machine, &masks.writes, i), resource) {
+        edge_of(machine, &masks.writes, b'W', i, resource);
+    } else if has(mask_of(machine, &masks.reads, i), resource) {
+        edge_of(machine, &masks.writes, b'R', i, resource);
+    }
+}
+
+fn line(machine: &[u32], masks: &Masks, i: usize) {
+    print::letter(b'N');
     node(machine, i);
-    let mut resource = 0;
-    while resource < 33 {
-        edge(machine, reads, writes, i, resource);
-        resource += 1;
+    for resource in 0..33 {
+        edge(machine, masks, i, resource);
     }
-    super::print::letter(b'\n');
+    print::letter(b'\n');
 }
 
-fn lines(machine: &[u32], reads: &[u64; 128], writes: &[u64; 128]) {
-    let count = super::words::index(super::words::get(machine, 1));
-    let mut i = 0;
-    while i < count {
-        line(machine, reads, writes, i);
-        i += 1;
-    }
-}
-
-fn on_blocks(machine: &[u32], blocks: [Block; 128], n: usize)
-    requires { Sound (take n blocks) × (n ≤ 128) }
+fn lines(machine: &[u32], blocks: &[Block])
+    requires { Sound blocks.now × (length blocks.now ≤ 128) }
 {
-    let tables = masks::masks(blocks, n);
-    let reads = tables.reads;
-    let writes = tables.writes;
-    lines(machine, &reads, &writes);
+    let masks = Masks::of(blocks);
+    for i in 0..words::get(machine, 1) as usize {
+        line(machine, &masks, i);
+    }
+}
+
+fn drawn(image: &[u8], machine: &[u32]) -> Result<(), Refused> {
+    let program = decode::decode(image)?;
+    let blocks = program.blocks();
+    judge::judge_blocks(blocks)?;
+    lines(machine, blocks);
+    Ok(())
 }
 
 // Nothing where the image is refused.
 pub fn graph(image: &[u8], machine: &[u32]) {
-    let d = decode::decode(image);
-    let code = d.code;
-    if code != 0 {
-        return;
-    }
-    let blocks = d.blocks;
-    let n = d.count;
-    match judge::judge_blocks(blocks, n) {
-        Judgement::Refused(_, _) => {}
-        Judgement::Accepted(_, _) => on_blocks(machine, blocks, n),
-    }
+    let _ = drawn(image, machine);
 }

@@ -4,8 +4,6 @@
 // lines. What is proved is that this is safe and ends; what it prints is compared with the stored output.
 #![tactic(auto)]
 
-use rules::Judgement;
-
 mod graph;
 mod print;
 mod words;
@@ -22,8 +20,8 @@ fn judged(code: u32, place: u32, blocks: u32, peak: u32) {
 
 fn judge(image: &[u8]) {
     match judge::judge(image) {
-        Judgement::Refused(code, place) => judged(code, place, 0, 0),
-        Judgement::Accepted(blocks, peak) => judged(0, 0, blocks, peak),
+        Ok(found) => judged(0, 0, found.blocks, found.peak),
+        Err(refused) => judged(refused.code.number(), refused.place, 0, 0),
     }
 }
 
@@ -38,22 +36,15 @@ fn start(image: &[u8], first: &[u32], machine: &mut [u32]) {
 // So many steps; the code of the last.
 fn make_steps(image: &[u8], machine: &mut [u32], process: u32, direction: u32, times: u32) -> u32 {
     let mut code = 0;
-    let mut left = times;
-    while 0 < left {
-        let answer = runtime::stepping::step(image, machine, process, direction);
-        code = answer.code;
-        left -= 1;
+    for _ in 0..times {
+        code = runtime::stepping::step(image, machine, process, direction).code;
     }
     code
 }
 
 fn steps(image: &[u8], machine: &mut [u32], process: u32, direction: u32, times: u32) {
     let code = make_steps(image, machine, process, direction, times);
-    if direction == 0 {
-        print::letter(b'F');
-    } else {
-        print::letter(b'B');
-    }
+    print::letter(if direction == 0 { b'F' } else { b'B' });
     print::hexadecimal(process);
     print::decimal(code);
     print::decimal(words::get(machine, 0));
@@ -76,8 +67,8 @@ fn on_image(image: &[u8], first: &[u32], machine: &mut [u32], kind: u8, a: u32, 
 // A record on words alone.
 fn on_words(first: &mut [u32], machine: &mut [u32], kind: u8, a: u32, b: u32) {
     match kind {
-        4 => words::set(first, words::index(a), b),
-        6 => words::set(machine, words::index(a), b),
+        4 => words::set(first, a as usize, b),
+        6 => words::set(machine, a as usize, b),
         7 => words::show(machine, a, b),
         _ => {}
     }
@@ -91,14 +82,13 @@ fn title(text: &[u8]) {
 // How many bytes stand behind a record: an image's or a title's.
 fn behind(kind: u8, a: u32) -> usize {
     match kind {
-        3 => words::index(a),
-        9 => words::index(a),
+        3 | 9 => a as usize,
         _ => 0,
     }
 }
 
 // Where the next record stands, and the image that was judged last.
-#[derive(Drop)]
+#[derive(Clone, Copy)]
 struct Reached {
     at: usize,
     from: usize,
@@ -106,13 +96,9 @@ struct Reached {
 }
 
 fn print_title(script: &[u8], from: usize, to: usize) {
-    if script.len() < to {
-        return;
+    if let Some(text) = script.get(from..to) {
+        title(text);
     }
-    if to < from {
-        return;
-    }
-    title(&script[from..to]);
 }
 
 fn use_image(
@@ -125,28 +111,20 @@ fn use_image(
     a: u32,
     b: u32,
 ) {
-    if script.len() < to {
-        return;
+    if let Some(image) = script.get(from..to) {
+        on_image(image, first, machine, kind, a, b);
     }
-    if to < from {
-        return;
-    }
-    on_image(&script[from..to], first, machine, kind, a, b);
 }
 
 // The image of a record that has one, else the one before.
 fn image_of(reached: Reached, kind: u8, body: usize, end: usize) -> Reached {
-    if kind == 3 {
-        return Reached {
+    match kind {
+        3 => Reached {
             at: end,
             from: body,
             to: end,
-        };
-    }
-    Reached {
-        at: end,
-        from: reached.from,
-        to: reached.to,
+        },
+        _ => Reached { at: end, ..reached },
     }
 }
 
@@ -159,13 +137,11 @@ fn turn(script: &[u8], reached: Reached, first: &mut [u32], machine: &mut [u32])
     let body = words::moved(at, 9);
     let end = words::moved(body, behind(kind, a));
     let next = image_of(reached, kind, body, end);
-    let from = next.from;
-    let to = next.to;
     if kind == 9 {
         print_title(script, body, end);
     }
     on_words(first, machine, kind, a, b);
-    use_image(script, from, to, first, machine, kind, a, b);
+    use_image(script, next.from, next.to, first, machine, kind, a, b);
     next
 }
 
@@ -175,11 +151,8 @@ fn play_on(script: &[u8], first: &mut [u32], machine: &mut [u32]) {
         from: 0,
         to: 0,
     };
-    let mut left = script.len();
-    while 0 < left {
-        let next = turn(script, reached, first, machine);
-        reached = next;
-        left -= 1;
+    for _ in 0..script.len() {
+        reached = turn(script, reached, first, machine);
     }
 }
 

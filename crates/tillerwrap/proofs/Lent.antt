@@ -1,6 +1,6 @@
 -- From lent bytes to words and back: a start and a step on the words of the bytes are the start and the step on the bytes.
 -- Assumes nothing.
-use mathlib.Core.Path.{◌≡◌, sym, ap, ◌∙◌}
+use mathlib.Core.Path.{◌≡◌, refl, sym, ap, ◌∙◌}
 use mathlib.Core.List.{List}
 use Prim.Native.Nat.{ℕ}
 use lib.ListN.{length}
@@ -14,7 +14,9 @@ use Rattle.rules.specs.declared.Answer.{Answer}
 use Rattle.rules.specs.declared.Block.{Block}
 use Rattle.rules.specs.Judgement.{Judgement}
 use Rattle.laws.specs.Fit.{Bytes}
-use Rattle.machine.specs.Outcome.{outcome}
+use Rattle.std.specs.Prelude.{Result, Ok, Err}
+use Rattle.rules.specs.declared.Code.{Code}
+use Rattle.machine.specs.Outcome.{ended}
 use Rattle.runtime.specs.Outcome.{outcome_of}
 use Rattle.word_bytes.proofs.Laws.{length-words_of}
 use Rattle.laws.proofs.Bytes.{bytes-again}
@@ -22,25 +24,29 @@ use Rattle.theorems.specs.Refusals.{refusal_keeps}
 
 -- ---- starting, on an image that is accepted
 module _ (first bytes : List ℕ) (program : List Block) where
-  pub bad-first : (length first ≡ 1152 → ⊥) → outcome 16 bytes ≡ start_bytes_in first bytes program
+  pub bad-first : (length first ≡ 1152 → ⊥) → refuse 16 0 bytes ≡ start_bytes_in first bytes program
   unfolding start_bytes_in pick
   bad-first h = rw (ne_eqb (length first) 1152 h)
 
-  pub bad-machine : length first ≡ 1152 → (length bytes ≡ 34696 → ⊥) → outcome 16 bytes ≡ start_bytes_in first bytes program
+  pub bad-machine : length first ≡ 1152 → (length bytes ≡ 34696 → ⊥) → refuse 16 0 bytes ≡ start_bytes_in first bytes program
   unfolding start_bytes_in pick
   bad-machine f h = rw (eq-eqb (length first) 1152 f, ne_eqb (length bytes) 34696 h)
 
   -- the words that were there before do not matter
   pub well :
-      (code : ℕ) (words left : List ℕ) → length first ≡ 1152 → length bytes ≡ 34696 → length words ≡ 8674 →
-      outcome code left ≡ start_in (words_of first) words program → outcome code (bytes_of left) ≡ start_bytes_in first bytes program
+      (done : Result (Unit {0}) Code) (words left : List ℕ) → length first ≡ 1152 → length bytes ≡ 34696 → length words ≡ 8674 →
+      ended done left ≡ start_in (words_of first) words program → ended done (bytes_of left) ≡ start_bytes_in first bytes program
   unfolding start_bytes_in start_in to_bytes pick
-  well code words left f h l e =
+  well done words left f h l e =
       let p = eq-eqb (length (words_of first)) 288 (length-words_of first 288 f) in
       let q = eq-eqb (length (words_of bytes)) 8674 (length-words_of bytes 8674 h) in
       let same : start_in (words_of first) words program ≡ start_in (words_of first) (words_of bytes) program =
       simp (p, q, eq-eqb (length words) 8674 l) in
-      ap to_bytes (e ∙ same) ∙ simp (eq-eqb (length first) 1152 f, eq-eqb (length bytes) 34696 h)
+      in-bytes done ∙ ap to_bytes (e ∙ same) ∙ simp (eq-eqb (length first) 1152 f, eq-eqb (length bytes) 34696 h)
+    where
+      in-bytes : (r : Result (Unit {0}) Code) → ended r (bytes_of left) ≡ to_bytes (ended r left)
+      in-bytes (Ok a) = refl
+      in-bytes (Err c) = refl
 
 -- ---- stepping
 module _ (image bytes words : List ℕ) (f g : List Block → Outcome (List ℕ)) where

@@ -1,2 +1,3 @@
--- Laws of the boundary.
+-- Laws that the proofs of the boundary cite.
 pub mod Lent
+pub mod Listed

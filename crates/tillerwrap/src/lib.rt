@@ -2,17 +2,19 @@
 // on numbers and bytes: a slice of words is bytes, four a word, low byte first.
 #![tactic(auto)]
 
-ghost use Rattle.std.specs.Prelude.{◌≡◌, List, ℕ, length, replicate};
+ghost use Rattle.std.specs.Prelude.{◌≡◌, List, ℕ, length, IfOk};
+ghost use Rattle.rules.specs.Codes.{number};
+ghost use Rattle.rules.specs.Judgement.{judged};
 ghost use Rattle.rules.specs.Judge.{judgement, numbers};
-ghost use Rattle.rules.specs.Words.{refuse, on_image, start_bytes_in, start_bytes, step_bytes};
-ghost use Rattle.rules.specs.List.{zero_row, list_bytes};
+ghost use Rattle.rules.specs.Words.{Outcome, refuse, on_image, start_bytes_in, start_bytes, step_bytes};
+ghost use Rattle.rules.specs.List.{list_bytes};
 ghost use Rattle.rules.specs.declared.Block.{Block};
-ghost use Rattle.rules.specs.declared.Row as Rules;
-ghost use Rattle.runtime.specs.Outcome.{outcome_of};
-ghost use Rattle.table.specs.Listed.{shown, written};
+ghost use Rattle.rules.specs.declared.Row as Declared;
+ghost use Rattle.accepted.specs.Listed.{listed};
+ghost use Rattle.runtime.specs.Outcome.{outcome_of, left};
+ghost use Rattle.machine.specs.Outcome.{ended};
 
-use rules::{Answer, Judged, Judgement, Row};
-use table::Listing;
+use rules::{Accepted, Answer, Code, Judged, Refused, Row};
 
 // The bytes of a first memory and of a machine, and the rows of a list.
 const MEMORY_BYTES: usize = 1152;
@@ -22,21 +24,21 @@ const MACHINE_BYTES: usize = 34696;
 const ROWS: usize = 64;
 
 // The four numbers of a judgement.
-fn numbers_of(j: Judgement) -> Judged
-    ensures { result ≡ numbers j }
+fn numbers_of(found: Result<Accepted, Refused>) -> Judged
+    ensures { result ≡ numbers (judged found) }
 {
-    match j {
-        Judgement::Refused(code, place) => Judged {
-            code,
-            place,
-            blocks: 0,
-            peak: 0,
-        },
-        Judgement::Accepted(blocks, peak) => Judged {
+    match found {
+        Ok(accepted) => Judged {
             code: 0,
             place: 0,
-            blocks,
-            peak,
+            blocks: accepted.blocks,
+            peak: accepted.peak,
+        },
+        Err(refused) => Judged {
+            code: refused.code.number(),
+            place: refused.place,
+            blocks: 0,
+            peak: 0,
         },
     }
 }
@@ -49,41 +51,44 @@ pub fn tillerwrap_judge(image: &[u8]) -> Judged
 }
 
 // 16 for a length that is wrong, after the codes of judging.
-fn wrong_length(image: &[u8]) -> Answer
-    ensures { (lent : List ℕ) → outcome_of result lent ≡ on_image image.now lent (λ program. refuse 16 0 lent) }
+fn wrong_length(image: &[u8]) -> Refused
+    ensures words { (lent : List ℕ) → refuse (number result.code) result.place lent ≡ on_image image.now lent (λ program. refuse 16 0 lent) }
+    ensures rows { (lent : List Declared.Row) → refuse (number result.code) result.place lent ≡ on_image image.now lent (λ program. refuse 16 0 lent) }
 {
     match judge::judge(image) {
-        Judgement::Refused(code, place) => Answer { code, place },
-        Judgement::Accepted(_, _) => Answer { code: 16, place: 0 },
+        Ok(_) => Refused::from(Code::SliceLength),
+        Err(refused) => refused,
     }
 }
 
 // Starts a machine for an image that is accepted.
-fn start_bytes(first: &[u8], machine: &mut [u8]) -> Answer
-    ensures { (p : List Block) → outcome_of result machine.new ≡ start_bytes_in first.now machine.old p }
+fn start_bytes(first: &[u8], machine: &mut [u8]) -> Result<(), Code>
+    ensures { (p : List Block) → ended result machine.new ≡ start_bytes_in first.now machine.old p }
 {
-    if first.len() != MEMORY_BYTES {
-        return Answer { code: 16, place: 0 };
-    }
-    if machine.len() != MACHINE_BYTES {
-        return Answer { code: 16, place: 0 };
+    if first.len() != MEMORY_BYTES || machine.len() != MACHINE_BYTES {
+        return Err(Code::SliceLength);
     }
     let mut memory = [0u32; 288];
     word_bytes::words_of(first, &mut memory);
     let mut words = [0u32; 8674];
-    let code = machine::start::start(&memory, &mut words);
+    let done = machine::start::start(&memory, &mut words);
     word_bytes::bytes_of(&words, machine);
-    Answer { code, place: 0 }
+    done
+}
+
+fn started(image: &[u8], first: &[u8], machine: &mut [u8]) -> Result<(), Refused>
+    ensures { left result machine.new ≡ start_bytes image.now first.now machine.old }
+{
+    judge::judge(image)?;
+    start_bytes(first, machine)?;
+    Ok(())
 }
 
 // Starts a machine: the lent bytes are all written, or on a refusal left as they are.
 pub fn tillerwrap_start(image: &[u8], first: &[u8], machine: &mut [u8]) -> Answer
     ensures { outcome_of result machine.new ≡ start_bytes image.now first.now machine.old }
 {
-    match judge::judge(image) {
-        Judgement::Refused(code, place) => Answer { code, place },
-        Judgement::Accepted(_, _) => start_bytes(first, machine),
-    }
+    runtime::answer(started(image, first, machine))
 }
 
 // One forward step or one undo of a process: the lent bytes are those of the machine after it, or on a refusal left as they are.
@@ -91,7 +96,7 @@ pub fn tillerwrap_step(image: &[u8], process: u32, direction: u32, machine: &mut
     ensures { outcome_of result machine.new ≡ step_bytes image.now machine.old process direction }
 {
     if machine.len() != MACHINE_BYTES {
-        return wrong_length(image);
+        return Answer::from(wrong_length(image));
     }
     let mut words = [0u32; 8674];
     word_bytes::words_of(machine, &mut words);
@@ -103,23 +108,13 @@ pub fn tillerwrap_step(image: &[u8], process: u32, direction: u32, machine: &mut
     answer
 }
 
-// The list of a machine or of rows of a wrong length.
-fn listing_of_16(image: &[u8]) -> Listing
-    ensures { shown result ≡ on_image image.now (replicate 64 zero_row) (λ program. refuse 16 0 (replicate 64 zero_row)) }
-{
-    let answer = wrong_length(image);
-    table::refused(answer.code, answer.place)
-}
-
 // The list into n rows, by value.
-fn listing_of(image: &[u8], machine: &[u8], n: usize) -> Listing
-    ensures { (lent : List Rules.Row) → length lent ≡ n → written (shown result) lent ≡ list_bytes image.now machine.now lent }
+fn listing_of(image: &[u8], machine: &[u8], n: usize) -> Result<[Row; 64], Refused>
+    ensures rows { IfOk result (λ rows. n ≡ 64) }
+    ensures list { (lent : List Declared.Row) → length lent ≡ n → listed result lent ≡ list_bytes image.now machine.now lent }
 {
-    if n != ROWS {
-        return listing_of_16(image);
-    }
-    if machine.len() != MACHINE_BYTES {
-        return listing_of_16(image);
+    if n != ROWS || machine.len() != MACHINE_BYTES {
+        return Err(wrong_length(image));
     }
     let mut words = [0u32; 8674];
     word_bytes::words_of(machine, &mut words);
@@ -130,15 +125,11 @@ fn listing_of(image: &[u8], machine: &[u8], n: usize) -> Listing
 pub fn tillerwrap_list(image: &[u8], machine: &[u8], rows: &mut [Row]) -> Answer
     ensures { outcome_of result rows.new ≡ list_bytes image.now machine.now rows.old }
 {
-    let listing = listing_of(image, machine, rows.len());
-    let answer = table::answer_of(listing);
-    if answer.code != 0 {
-        return answer;
+    match listing_of(image, machine, rows.len()) {
+        Ok(listing) => {
+            rows.copy_from_slice(&listing);
+            Answer { code: 0, place: 0 }
+        }
+        Err(refused) => Answer::from(refused),
     }
-    let mut k = 0;
-    while k < 64 {
-        rows[k] = table::row_of(listing, k);
-        k = k + 1;
-    }
-    answer
 }

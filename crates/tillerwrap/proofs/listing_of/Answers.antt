@@ -1,28 +1,20 @@
--- 16, or what the readiness answers show.
+-- 16, or the list on the words of the bytes.
 use Rattle.std.proofs.Common.{sym, ◌∙◌}
-use Rattle.table.specs.Listed.{shown}
-use Rattle.table.proofs.Listed.{short-rows, short-bytes, written-short, written-whole}
+use Rattle.tillerwrap.proofs.Listed.{no-rows, no-machine, on-words}
 use Rattle.tillerwrap.proofs.listing_of.Goals as goal
+use Rattle.tillerwrap.proofs.listing_of.Goals.{then-n-ne-ROWS-via-then-n-ne-ROWS, then-n-ne-ROWS-via-else-n-ne-ROWS+then-machine-ne-MACHINE_BYTES}
 
-pub returns-then-n-ne-ROWS : goal.returns-then-n-ne-ROWS
-returns-then-n-ne-ROWS c =
+pub returns-then-n-ne-ROWS-clause-list : goal.returns-then-n-ne-ROWS-clause-list
+returns-then-n-ne-ROWS-clause-list c = λ lent size.
     let a = c.args in
-    λ lent e.
-    written-short a.image.now a.machine.now lent (shown c.listing_of_16.result)
-    (short-rows a.image.now a.machine.now lent (λ l. c.if-n-ne-ROWS.true (sym e ∙ l)))
-    c.listing_of_16.ensures
+    c.wrong_length.ensures.rows lent
+    ∙ (elim c.then-n-ne-ROWS.branch [
+      | then-n-ne-ROWS-via-then-n-ne-ROWS w ↦ no-rows a.image.now a.machine.now lent (λ l. w.if-n-ne-ROWS.true (sym size ∙ l))
+      | then-n-ne-ROWS-via-else-n-ne-ROWS+then-machine-ne-MACHINE_BYTES w ↦ no-machine a.image.now a.machine.now lent w.if-machine-ne-MACHINE_BYTES.true
+    ])
 
-pub returns-then-machine-ne-MACHINE_BYTES : goal.returns-then-machine-ne-MACHINE_BYTES
-returns-then-machine-ne-MACHINE_BYTES c =
+pub returns-clause-list : goal.returns-clause-list
+returns-clause-list c = λ lent size.
     let a = c.args in
-    λ lent e.
-    written-short a.image.now a.machine.now lent (shown c.listing_of_16-then-machine-ne-MACHINE_BYTES.result)
-    (short-bytes a.image.now a.machine.now lent c.if-machine-ne-MACHINE_BYTES.true)
-    c.listing_of_16-then-machine-ne-MACHINE_BYTES.ensures
-
-pub returns : goal.returns
-returns c =
-    let a = c.args in
-    λ lent e.
-    written-whole a.image.now a.machine.now lent (shown c.ready.result) (e ∙ c.if-n-ne-ROWS.false) c.if-machine-ne-MACHINE_BYTES.false _
-    c.words_of.ensures c.ready.ensures
+    c.ready.ensures lent (size ∙ c.if-n-ne-ROWS.false)
+    ∙ on-words a.image.now a.machine.now lent _ c.if-machine-ne-MACHINE_BYTES.false c.words_of.ensures

@@ -1,5 +1,6 @@
 -- A step on the words of the bytes, written back where it is accepted.
 use Rattle.std.proofs.Common.{ap, ◌∙◌, rules}
+use Rattle.rules.specs.declared.Answer.{Answer}
 use Rattle.runtime.specs.Outcome.{outcome_of}
 use Rattle.tillerwrap.proofs.Lent.{bad-bytes, stepped, kept}
 use Rattle.tillerwrap.proofs.tillerwrap_step.Goals as goal
@@ -7,7 +8,8 @@ use Rattle.tillerwrap.proofs.tillerwrap_step.Goals as goal
 pub returns-then-machine-ne-MACHINE_BYTES : goal.returns-then-machine-ne-MACHINE_BYTES
 returns-then-machine-ne-MACHINE_BYTES c =
     let a = c.args in
-    bad-bytes a.image.now a.machine.now a.process a.direction _ c.if-machine-ne-MACHINE_BYTES.true (c.wrong_length.ensures a.machine.now)
+    bad-bytes a.image.now a.machine.now a.process a.direction _ c.if-machine-ne-MACHINE_BYTES.true
+    (ap (λ (said : Answer). outcome_of said a.machine.now) c.from.ensures ∙ c.wrong_length.ensures.words a.machine.now)
 
 pub returns-then-answer-ne0 : goal.returns-then-answer-ne0
 returns-then-answer-ne0 c =

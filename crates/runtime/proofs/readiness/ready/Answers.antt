@@ -1,46 +1,33 @@
--- The codes of judging, or the rows on the decoded blocks.
-use Rattle.std.proofs.Common.{replicate, sym, ◌∙◌}
-use Rattle.rules.specs.Read.{decoded}
-use Rattle.rules.specs.Judge.{judgement}
-use Rattle.rules.specs.List.{zero_row, list_in, list}
-use Rattle.decode.proofs.Answer.{program, accepted-is, slice_bytes}
-use Rattle.judge.proofs.Ways as Ways
-use Rattle.runtime.proofs.Judged.{on_refused, on_program, sound-of}
+-- Judging's refusal, or the list on the image's blocks.
+use Rattle.std.proofs.Common.{List, ap, ◌∙◌, Result}
+use Rattle.decode.proofs.Answer.{slice_bytes}
+use Rattle.rules.specs.List.{list_in, list}
+use Rattle.rules.specs.declared.Refused.{Refused}
+use Rattle.rules.specs.declared.Row.{Row}
+use Rattle.accepted.specs.Listed.{listed}
+use Rattle.runtime.proofs.Judged.{handed, on_fault, on_bad, on_good, sound-of}
 use Rattle.runtime.proofs.readiness.ready.Goals as goal
 
-pub returns-then-code-ne0 : goal.returns-then-code-ne0
-unfolding list judgement
-returns-then-code-ne0 c =
-    let a = c.args in
-    let d = c.decode-d in
-    c.refused.ensures
-    ∙ on_refused a.image.now (replicate 64 zero_row) (list_in a.words.now (replicate 64 zero_row)) _ _
-    (sym (Ways.refused (decoded a.image.now) d.result d.ensures c.if-code-ne0.true))
+pub returns-in_err-program : goal.returns-in_err-program
+unfolding list
+returns-in_err-program c = λ lent size.
+    ap (λ (r : Result (List Row) Refused). listed r lent) (handed _ _ c.from_residual.ensures.1)
+    ∙ on_fault c.args.image.now lent (list_in c.args.words.now lent) _ c.in_err-program.ensures
+
+pub returns-in_err-judge_blocks : goal.returns-in_err-judge_blocks
+unfolding list
+returns-in_err-judge_blocks c = λ lent size.
+    ap (λ (r : Result (List Row) Refused). listed r lent) (handed _ _ c.from_residual-in_err-judge_blocks.ensures.1)
+    ∙ on_bad c.args.image.now lent (list_in c.args.words.now lent) _ c.in_ok-program.ensures _ c.blocks-blocks.ensures.are _ c.in_err-judge_blocks.ensures
 
 pub ready_on-requires : goal.ready_on-requires
-ready_on-requires c =
-    let a = c.args in
-    let d = c.decode-d in
-    let code = c.if-code-ne0.false in (
-      sound-of a.image.now d.result (slice_bytes a.image.now c.type_inv.image) d.ensures code _ _ (sym c.in-Accepted.ensures),
-      Ways.counted (decoded a.image.now) d.result d.ensures code,
-    )
+ready_on-requires c = (
+  sound-of c.args.image.now c.in_ok-program.program (slice_bytes c.args.image.now c.type_inv.image) c.in_ok-program.ensures _ c.blocks-blocks.ensures.are _ c.in_ok-judge_blocks.ensures,
+  c.blocks-blocks.ensures.few,
+)
 
-pub returns-in-Refused : goal.returns-in-Refused
-unfolding list judgement
-returns-in-Refused c =
-    let a = c.args in
-    let d = c.decode-d in
-    c.refused-in-Refused.ensures
-    ∙ on_refused a.image.now (replicate 64 zero_row) (list_in a.words.now (replicate 64 zero_row)) _ _
-    (sym (Ways.judged (decoded a.image.now) d.result _ d.ensures c.if-code-ne0.false c.in-Refused.ensures))
-
-pub returns-in-Accepted : goal.returns-in-Accepted
-unfolding list judgement
-returns-in-Accepted c =
-    let a = c.args in
-    let d = c.decode-d in
-    c.ready_on.ensures
-    ∙ on_program a.image.now (replicate 64 zero_row) (list_in a.words.now (replicate 64 zero_row)) (program d.result) _ _ _
-    (accepted-is a.image.now d.result d.ensures c.if-code-ne0.false)
-    (sym c.in-Accepted.ensures)
+pub returns : goal.returns
+unfolding list
+returns c = λ lent size.
+    c.ready_on.ensures lent size
+    ∙ on_good c.args.image.now lent (list_in c.args.words.now lent) _ c.in_ok-program.ensures _ c.blocks-blocks.ensures.are _ c.in_ok-judge_blocks.ensures
