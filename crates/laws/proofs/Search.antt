@@ -110,5 +110,5 @@ module _ {A : Type 0} (q : A → Bool) (d : A) where
   unfolding lowest
   found-position p l h =
       let e : lowest_from p (length l) 0 ≡ position_or_len q l =
-          passes-first p l 0 (λ k lt. subst (λ (x : ℕ). p x ≡ q (get_or l k d)) (sym (zero-add k)) (h k lt)) ∙ zero-add (position_or_len q l) in
+      passes-first p l 0 (λ k lt. subst (λ (x : ℕ). p x ≡ q (get_or l k d)) (sym (zero-add k)) (h k lt)) ∙ zero-add (position_or_len q l) in
       rw e refl
