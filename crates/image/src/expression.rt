@@ -3,7 +3,8 @@
 ghost use Rattle.std.specs.Prelude.{◌≡◌};
 ghost use Rattle.rules.specs.Format.{operator_of};
 ghost use Rattle.rules.specs.Read.{expression_at};
-ghost use Rattle.image.specs.Shown.{shown, maybe};
+ghost use Rattle.laws.specs.Found.{given};
+ghost use Rattle.image.specs.Shown.{shown};
 
 use crate::{Cursor, Fault};
 use rules::{Code, Expression, Operator};
@@ -11,7 +12,7 @@ use rules::{Code, Expression, Operator};
 // Stays: an impl of `TryFrom<u8>` for Operator may only stand in the crate of the type.
 #[tactic(auto, unfolding(rules::specs::Base::pick, rules::specs::Format::operator_of))]
 fn operator_of(kind: u8) -> Option<Operator>
-    ensures { maybe result ≡ operator_of kind }
+    ensures { given result ≡ operator_of kind }
 {
     match kind {
         0x12 => Some(Operator::Add),

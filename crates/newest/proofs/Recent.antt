@@ -8,7 +8,7 @@ use mathlib.Core.Bool.{Bool, true, false}
 use mathlib.Core.List.{List, [], ◌∷◌}
 use mathlib.Core.Option as Math
 use Rattle.std.proofs.Common.{Option, Some, None}
-use Rattle.ordered.specs.Given.{given}
+use Rattle.laws.specs.Found.{given}
 use lib.ListN.{length, take, get_or, set, replicate, length-set, length-replicate, get_or-replicate}
 use lib.Seq.{get_or-set_same, get_or-set_other, take_all}
 use lib.Dec.{eqb}

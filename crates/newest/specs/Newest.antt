@@ -3,7 +3,7 @@ use Rattle.std.specs.Prelude.{ℕ, ◌+◌, ◌*◌, ◌<◌, ◌≡◌, List, l
 use Rattle.rules.specs.Base.{pick}
 use Rattle.rules.specs.Machine.{live_count, view}
 use Rattle.rules.specs.Fits.{newest}
-use Rattle.ordered.specs.Given.{given}
+use Rattle.laws.specs.Found.{given}
 
 -- an entry is noted at its process's row
 pub record Noted (w : List ℕ) (p block : ℕ) (before after : List (Option ℕ)) : Type 0 where

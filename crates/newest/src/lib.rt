@@ -8,7 +8,7 @@ ghost use Rattle.rules.specs.Fits.{is_block, newest_fits};
 ghost use Rattle.rules.specs.declared.Block.{Block};
 ghost use Rattle.laws.proofs.View.{row_at};
 ghost use Rattle.places.specs.Places.{Exits};
-ghost use Rattle.ordered.specs.Given.{given};
+ghost use Rattle.laws.specs.Found.{given};
 ghost use Rattle.ordered.specs.Ordered.{Ordered};
 ghost use Rattle.ordered.specs.Search.{Identifiers};
 ghost use Rattle.newest.specs.Newest.{Noted, NewestOf};

@@ -18,7 +18,7 @@ use Rattle.rules.specs.declared.Block.{Block}
 use Rattle.rules.specs.declared.Place.{Place}
 use Rattle.laws.proofs.CallTable.{calls-at}
 use Rattle.std.proofs.Common.{slice_get}
-use Rattle.ordered.specs.Given.{given}
+use Rattle.laws.specs.Found.{given}
 use Rattle.calls.specs.declared.table.Calls.{Calls}
 use Rattle.own.specs.Tables.{Homes, CallsIn}
 

@@ -11,7 +11,7 @@ ghost use Rattle.rules.specs.declared.Block.{Block};
 ghost use Rattle.laws.proofs.View.{row_at};
 ghost use Rattle.places.specs.Places.{Entries, Exits};
 ghost use Rattle.own.specs.Tables.{Homes, CallsIn, Tables};
-ghost use Rattle.ordered.specs.Given.{given};
+ghost use Rattle.laws.specs.Found.{given};
 ghost use Rattle.ordered.specs.Ordered.{Ordered};
 
 use calls::Calls;

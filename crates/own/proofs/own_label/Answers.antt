@@ -5,7 +5,7 @@ use Rattle.rules.specs.Fits.{nth}
 use Rattle.machine.specs.RowOf.{row_of}
 use Rattle.own.proofs.Owning.{own_root, own-lost, own-called}
 use Rattle.identifier.specs.declared.Identifier.{Identifier}
-use Rattle.ordered.specs.Given.{given}
+use Rattle.laws.specs.Found.{given}
 use Rattle.own.proofs.own_label.Goals as goal
 
 abbrev number : Identifier → ℕ
