@@ -1,19 +1,23 @@
 // What an instruction does to a memory, as writes that are pending. An undo acts by the inverse instruction. Everything here only reads.
 #![tactic(auto)]
 
-ghost use Rattle.std.specs.Prelude.{◌≡◌, ◌<◌, IfOk, length};
-ghost use Rattle.rules.specs.Machine.{memory_words};
+ghost use Rattle.std.specs.Prelude.{◌≡◌, ◌<◌, IfOk};
 ghost use Rattle.rules.specs.Leaf.{update, exchange, semaphore_step, act, inverse_change, inverse};
 ghost use Rattle.laws.specs.Fit.{TargetFit, ExpressionFit, InstructionFit};
 ghost use Rattle.evaluate.specs.Shown.{WritesFit};
 ghost use Rattle.act.specs.Acted.{acted, assertion};
 
-use evaluate::Writes;
+use evaluate::{MEMORY_WORDS, Writes};
 use rules::{Change, Code, Expression, Instruction, Target};
 
 #[tactic(auto, unfolding(rules::specs::Leaf::after, rules::specs::Leaf::update, evaluate::specs::Shown::written))]
-fn update(memory: &[u32], change: Change, a: Target, e: Expression) -> Result<Writes, Code>
-    requires { (length memory.now ≡ memory_words) × TargetFit a × ExpressionFit e }
+fn update(
+    memory: &[u32; MEMORY_WORDS],
+    change: Change,
+    a: Target,
+    e: Expression,
+) -> Result<Writes, Code>
+    requires { TargetFit a × ExpressionFit e }
     ensures shown { acted memory.now result ≡ update memory.now change a e }
     ensures inside { IfOk result WritesFit }
 {
@@ -23,8 +27,8 @@ fn update(memory: &[u32], change: Change, a: Target, e: Expression) -> Result<Wr
 }
 
 #[tactic(auto, unfolding(rules::specs::Leaf::after, rules::specs::Leaf::exchange, evaluate::specs::Shown::written))]
-fn exchange(memory: &[u32], a: Target, b: Target) -> Result<Writes, Code>
-    requires { (length memory.now ≡ memory_words) × TargetFit a × TargetFit b }
+fn exchange(memory: &[u32; MEMORY_WORDS], a: Target, b: Target) -> Result<Writes, Code>
+    requires { TargetFit a × TargetFit b }
     ensures shown { acted memory.now result ≡ exchange memory.now a b }
     ensures inside { IfOk result WritesFit }
 {
@@ -35,8 +39,13 @@ fn exchange(memory: &[u32], a: Target, b: Target) -> Result<Writes, Code>
 
 // V or P: the variable must hold exactly the one number, and then holds the other.
 #[tactic(auto, unfolding(rules::specs::Base::pick, rules::specs::Leaf::semaphore_step, evaluate::specs::Shown::written))]
-fn semaphore_step(memory: &[u32], x: u8, needs: u32, leaves: u32) -> Result<Writes, Code>
-    requires { (length memory.now ≡ memory_words) × (x < 32) }
+fn semaphore_step(
+    memory: &[u32; MEMORY_WORDS],
+    x: u8,
+    needs: u32,
+    leaves: u32,
+) -> Result<Writes, Code>
+    requires { x < 32 }
     ensures shown { acted memory.now result ≡ semaphore_step memory.now x needs leaves }
     ensures inside { IfOk result WritesFit }
 {
@@ -49,8 +58,8 @@ fn semaphore_step(memory: &[u32], x: u8, needs: u32, leaves: u32) -> Result<Writ
 }
 
 #[tactic(auto, unfolding(rules::specs::Base::pick, rules::specs::Leaf::after, evaluate::specs::Shown::written))]
-fn assertion(memory: &[u32], e: Expression) -> Result<Writes, Code>
-    requires { (length memory.now ≡ memory_words) × ExpressionFit e }
+fn assertion(memory: &[u32; MEMORY_WORDS], e: Expression) -> Result<Writes, Code>
+    requires { ExpressionFit e }
     ensures shown { acted memory.now result ≡ assertion memory.now e }
     ensures inside { IfOk result WritesFit }
 {
@@ -62,8 +71,8 @@ fn assertion(memory: &[u32], e: Expression) -> Result<Writes, Code>
 }
 
 #[tactic(auto, unfolding(rules::specs::Leaf::act, evaluate::specs::Shown::written))]
-pub fn act(memory: &[u32], instruction: Instruction) -> Result<Writes, Code>
-    requires { (length memory.now ≡ memory_words) × InstructionFit instruction }
+pub fn act(memory: &[u32; MEMORY_WORDS], instruction: Instruction) -> Result<Writes, Code>
+    requires { InstructionFit instruction }
     ensures shown { acted memory.now result ≡ act memory.now instruction }
     ensures inside { IfOk result WritesFit }
 {

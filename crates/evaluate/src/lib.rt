@@ -2,13 +2,16 @@
 // evaluated "on the new memory" before anything is written. Each function's answer is rules' (Leaf.antt).
 #![tactic(auto)]
 
-ghost use Rattle.std.specs.Prelude.{◌≡◌, ◌<◌, IfOk, length, get_or};
+ghost use Rattle.std.specs.Prelude.{◌≡◌, ◌<◌, IfOk, get_or};
 ghost use Rattle.rules.specs.Machine.{memory_words};
 ghost use Rattle.rules.specs.Leaf.{tried, cell_place, target_place, operand_value, expression_value};
 ghost use Rattle.laws.specs.Fit.{OperandFit, TargetFit, ExpressionFit};
 ghost use Rattle.evaluate.specs.Shown.{written};
 
 use rules::{Code, Expression, Operand, Target};
+
+// The words of a memory: its variables and then its cells.
+pub const MEMORY_WORDS: usize = 288;
 
 // The first cell's place in the memory, and how many cells there are.
 const FIRST_CELL: usize = 32;
@@ -25,8 +28,8 @@ pub enum Writes {
 
 // The value that a place holds once the writes are made.
 #[tactic(auto, unfolding(crate::specs::Shown::written))]
-pub fn value_at(memory: &[u32], writes: Writes, place: usize) -> u32
-    requires { place < length memory.now }
+pub fn value_at(memory: &[u32; MEMORY_WORDS], writes: Writes, place: usize) -> u32
+    requires { place < memory_words }
     ensures { result ≡ get_or (written writes memory.now) place 0 }
 {
     match writes {
@@ -39,8 +42,8 @@ pub fn value_at(memory: &[u32], writes: Writes, place: usize) -> u32
 
 // Where M[x] lies; it lies in the memory.
 #[tactic(auto, unfolding(rules::specs::Base::pick, rules::specs::Leaf::cell_place))]
-fn cell_place(memory: &[u32], writes: Writes, x: u8) -> Result<usize, Code>
-    requires { (length memory.now ≡ memory_words) × (x < 32) }
+fn cell_place(memory: &[u32; MEMORY_WORDS], writes: Writes, x: u8) -> Result<usize, Code>
+    requires { x < 32 }
     ensures shown { tried result ≡ cell_place (written writes memory.now) x }
     ensures inside { IfOk result (λ at. at < memory_words) }
 {
@@ -54,8 +57,8 @@ fn cell_place(memory: &[u32], writes: Writes, x: u8) -> Result<usize, Code>
 
 // Where an update or an exchange writes, which is in the memory; no writes are pending then.
 #[tactic(auto, unfolding(rules::specs::Leaf::target_place, crate::specs::Shown::written))]
-pub fn target_place(memory: &[u32], a: Target) -> Result<usize, Code>
-    requires { (length memory.now ≡ memory_words) × TargetFit a }
+pub fn target_place(memory: &[u32; MEMORY_WORDS], a: Target) -> Result<usize, Code>
+    requires { TargetFit a }
     ensures shown { tried result ≡ target_place memory.now a }
     ensures inside { IfOk result (λ at. at < memory_words) }
 {
@@ -66,8 +69,8 @@ pub fn target_place(memory: &[u32], a: Target) -> Result<usize, Code>
 }
 
 #[tactic(auto, unfolding(rules::specs::Leaf::after, rules::specs::Leaf::operand_value))]
-fn operand(memory: &[u32], writes: Writes, a: Operand) -> Result<u32, Code>
-    requires { (length memory.now ≡ memory_words) × OperandFit a }
+fn operand(memory: &[u32; MEMORY_WORDS], writes: Writes, a: Operand) -> Result<u32, Code>
+    requires { OperandFit a }
     ensures { tried result ≡ operand_value (written writes memory.now) a }
 {
     match a {
@@ -82,8 +85,8 @@ fn operand(memory: &[u32], writes: Writes, a: Operand) -> Result<u32, Code>
 
 // Of two operands both are evaluated; the first met refusal is the first side's.
 #[tactic(auto, unfolding(rules::specs::Leaf::after, rules::specs::Leaf::expression_value))]
-pub fn expression(memory: &[u32], writes: Writes, e: Expression) -> Result<u32, Code>
-    requires { (length memory.now ≡ memory_words) × ExpressionFit e }
+pub fn expression(memory: &[u32; MEMORY_WORDS], writes: Writes, e: Expression) -> Result<u32, Code>
+    requires { ExpressionFit e }
     ensures { tried result ≡ expression_value (written writes memory.now) e }
 {
     match e {

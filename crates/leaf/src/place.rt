@@ -1,12 +1,12 @@
 // The place that a side of a block, its entry or its exit, gives on a memory with writes pending.
 ghost use Rattle.std.specs.Prelude.{◌≡◌, length};
-ghost use Rattle.rules.specs.Machine.{memory_words, machine_words, place, view};
+ghost use Rattle.rules.specs.Machine.{machine_words, place, view};
 ghost use Rattle.rules.specs.Leaf.{tried, chosen};
 ghost use Rattle.evaluate.specs.Shown.{written};
 ghost use Rattle.leaf.specs.Side.{SideFit, side_place};
 
 use evaluate::Writes;
-use machine::{MEMORY, ROWS};
+use machine::{MEMORY, MEMORY_WORDS, ROWS};
 use rules::{Code, Entry, Exit, Place};
 
 // A side of a block. A step comes in by the one and leaves by the other: an undo comes in by the exit.
@@ -38,8 +38,8 @@ fn chosen(first: u8, second: u8, condition: u32) -> Place
 }
 
 #[tactic(auto, unfolding(rules::specs::Leaf::after, rules::specs::Leaf::entry_place, rules::specs::Leaf::exit_place, crate::specs::Side::side_place))]
-pub fn side_place(memory: &[u32], writes: Writes, side: Side) -> Result<Place, Code>
-    requires { (length memory.now ≡ memory_words) × SideFit side }
+pub fn side_place(memory: &[u32; MEMORY_WORDS], writes: Writes, side: Side) -> Result<Place, Code>
+    requires { SideFit side }
     ensures { tried result ≡ side_place (written writes memory.now) side }
 {
     match side {
@@ -53,11 +53,20 @@ pub fn side_place(memory: &[u32], writes: Writes, side: Side) -> Result<Place, C
     }
 }
 
+// The memory among a machine's words.
+#[tactic(auto, unfolding(rules::specs::Machine::view))]
+pub(crate) fn memory_of(m: &[u32]) -> &[u32; MEMORY_WORDS]
+    requires { length m.now ≡ machine_words }
+    ensures { result.now ≡ (view m.now).memory }
+{
+    m[MEMORY..ROWS].as_array().unwrap()
+}
+
 // The place on a machine's words, with nothing pending.
 #[tactic(auto, unfolding(rules::specs::Machine::view, evaluate::specs::Shown::written))]
 pub fn place_on(m: &[u32], side: Side) -> Result<Place, Code>
     requires { (length m.now ≡ machine_words) × SideFit side }
     ensures { tried result ≡ side_place (view m.now).memory side }
 {
-    side_place(&m[MEMORY..ROWS], Writes::Nothing, side)
+    side_place(memory_of(m), Writes::Nothing, side)
 }

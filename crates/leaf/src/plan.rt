@@ -1,15 +1,15 @@
 // The step of a leaf: where the process goes and what is written, or the first refusal met.
 ghost use Rattle.std.specs.Prelude.{◌≡◌, IfOk, length};
-ghost use Rattle.rules.specs.Machine.{memory_words, machine_words, view};
+ghost use Rattle.rules.specs.Machine.{machine_words, view};
 ghost use Rattle.rules.specs.Leaf.{leaf_forward, leaf_undo};
 ghost use Rattle.laws.specs.Fit.{InstructionFit, BlockFit};
 ghost use Rattle.evaluate.specs.Shown.{WritesFit, tried_as};
 ghost use Rattle.leaf.specs.Moved.{moved};
 ghost use Rattle.leaf.specs.Side.{SideFit, leaf_step};
 
-use super::place::Side;
+use super::place::{Side, memory_of};
 use evaluate::Writes;
-use machine::{MEMORY, ROWS};
+use machine::MEMORY_WORDS;
 use rules::{Block, Code, Instruction, Place};
 
 // Where the process then stands, and what is written.
@@ -23,13 +23,13 @@ pub struct Move {
 // gives the next place, on the new memory.
 #[tactic(auto, unfolding(rules::specs::Base::pick, rules::specs::Leaf::after, rules::specs::Leaf::present, evaluate::specs::Shown::written))]
 fn step(
-    memory: &[u32],
+    memory: &[u32; MEMORY_WORDS],
     here: Place,
     from: Side,
     instruction: Instruction,
     to: Side,
 ) -> Result<Move, Code>
-    requires { (length memory.now ≡ memory_words) × SideFit from × InstructionFit instruction × SideFit to }
+    requires { SideFit from × InstructionFit instruction × SideFit to }
     ensures shown { tried_as (moved memory.now) result ≡ leaf_step memory.now here from instruction to }
     ensures inside { IfOk result (λ m. WritesFit m.writes) }
 {
@@ -51,7 +51,7 @@ pub fn forward(m: &[u32], here: Place, block: &Block) -> Result<Move, Code>
 {
     let from = Side::Entry(block.entry);
     let to = Side::Exit(block.exit);
-    step(&m[MEMORY..ROWS], here, from, block.instruction, to)
+    step(memory_of(m), here, from, block.instruction, to)
 }
 
 // The exit's condition is evaluated on the present memory, before the instruction is inverted; the entry's on the earlier one.
@@ -64,5 +64,5 @@ pub fn undo(m: &[u32], here: Place, block: &Block) -> Result<Move, Code>
     let from = Side::Exit(block.exit);
     let to = Side::Entry(block.entry);
     let inverse = act::inverse(block.instruction);
-    step(&m[MEMORY..ROWS], here, from, inverse, to)
+    step(memory_of(m), here, from, inverse, to)
 }
