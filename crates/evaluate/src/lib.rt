@@ -2,7 +2,7 @@
 // evaluated "on the new memory" before anything is written. Each function's answer is rules' (Leaf.antt).
 #![tactic(auto)]
 
-ghost use Rattle.std.specs.Prelude.{◌≡◌, ◌<◌, IfOk, get_or};
+ghost use Rattle.std.specs.Prelude.{◌≡◌, ◌<◌, IfOk, length, get_or};
 ghost use Rattle.rules.specs.Machine.{memory_words};
 ghost use Rattle.rules.specs.Leaf.{tried, cell_place, target_place, operand_value, expression_value};
 ghost use Rattle.laws.specs.Fit.{OperandFit, TargetFit, ExpressionFit};
@@ -28,8 +28,8 @@ pub enum Writes {
 
 // The value that a place holds once the writes are made.
 #[tactic(auto, unfolding(crate::specs::Shown::written))]
-pub fn value_at(memory: &[u32; MEMORY_WORDS], writes: Writes, place: usize) -> u32
-    requires { place < memory_words }
+pub fn value_at(memory: &[u32], writes: Writes, place: usize) -> u32
+    requires { place < length memory.now }
     ensures { result ≡ get_or (written writes memory.now) place 0 }
 {
     match writes {

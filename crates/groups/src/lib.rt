@@ -27,9 +27,7 @@ fn rename(nodes: &mut [u16; NODES], old: u16, new: u16)
     ensures { nodes.new ≡ map (renamed old new) nodes.old }
 {
     for number in nodes.iter_mut() {
-        if *number == old {
-            *number = new;
-        }
+        *number = if *number == old { new } else { *number };
     }
 }
 

@@ -6,7 +6,7 @@ ghost use Rattle.rules.specs.Labels.{block_of};
 ghost use Rattle.rules.specs.Machine.{live_count, view};
 ghost use Rattle.rules.specs.Step.{forward, undo};
 ghost use Rattle.masks.specs.Masks.{MasksOf};
-ghost use Rattle.places.specs.Places.{PlacesOf};
+ghost use Rattle.places.specs.Places.{Exits, PlacesOf};
 ghost use Rattle.step.specs.Ready.{process_at, here_at, Plans};
 ghost use Rattle.machine.specs.Outcome.{ended};
 ghost use Rattle.plans.specs.Known.{Known, Committed, made_by};
@@ -47,7 +47,7 @@ pub fn undo_plan(
     masks: &Masks,
     row: usize,
 ) -> Result<Plan, Code>
-    requires { Known blocks.now m.now × (length blocks.now ≤ 128) × (row < live_count m.now) × PlacesOf blocks.now places.now × MasksOf blocks.now masks.now }
+    requires { Known blocks.now m.now × (length blocks.now ≤ 128) × (row < live_count m.now) × Exits blocks.now places.now × MasksOf blocks.now masks.now }
     ensures { Plans m.now result (undo blocks.now (view m.now) (process_at m.now row) (here_at m.now row)) }
 {
     let here = Process::of_row(m, row).stands;

@@ -34,6 +34,7 @@ pub mod Answers
 pub mod Demand3
 pub mod Worked
 pub mod Refusals
+pub mod OneAnswer
 pub mod Outcome
 pub mod NotEmpty
 pub mod PaperShown

@@ -1,15 +1,18 @@
 -- Demand 1, one outcome: what each promise allows, in the equations that its contract states, and that two outcomes which it
 -- allows are equal. A shared slice (the image, the first memory, a listed machine) can't change, so it is no part of an outcome.
 -- Assumes nothing.
-use Rattle.std.specs.Prelude.{◌≡◌, refl, List, ℕ}
+use Rattle.std.specs.Prelude.{◌≡◌, refl, List, ℕ, Result}
 use Rattle.std.proofs.Common.{sym, ap₂, ◌∙◌}
 use Rattle.rules.specs.Judge.{judgement, numbers}
 use Rattle.rules.specs.Words.{Outcome, start, step, start_bytes, step_bytes}
 use Rattle.rules.specs.List.{list, list_bytes}
 use Rattle.rules.specs.declared.Answer.{Answer}
+use Rattle.rules.specs.declared.Accepted as Found
 use Rattle.rules.specs.declared.Judged.{Judged}
-use Rattle.rules.specs.Judgement.{Judgement}
+use Rattle.rules.specs.declared.Refused as Fault
+use Rattle.rules.specs.Judgement.{Judgement, judged}
 use Rattle.rules.specs.declared.Row.{Row}
+use Rattle.theorems.specs.OneAnswer.{judged-one}
 
 -- ---- what the promises allow
 -- judging: the answer, and on the C boundary its four numbers
@@ -68,6 +71,8 @@ pub record OneOutcome : Type 0 where
   -- Judging an image, whatever its bytes, has one answer, and on the C boundary one set of four numbers.
   pub judge_one : (image : List ℕ) → One (JudgeAllows image)
   pub judge_numbers_one : (image : List ℕ) → One (JudgeNumbersAllows image)
+  -- The code's own answer, too, is one: no two of its answers are read as the same judgement.
+  pub judged_one : (a b : Result Found.Accepted Fault.Refused) → judged a ≡ judged b → a ≡ b
   -- Starting has one outcome: one answer, and one content of the lent machine afterwards. On words, and on bytes.
   pub start_one : (image first words : List ℕ) → One (StartAllows image first words)
   pub start_bytes_one : (image first bytes : List ℕ) → One (StartBytesAllows image first bytes)
@@ -92,6 +97,7 @@ one-outcome =
         allowed = record { answers = refl };
         only = λ a b p q. p.answers ∙ sym q.answers;
       };
+      judged_one = judged-one;
       start_one = λ image first words. record {
         outcome = start image first words;
         allowed = record { answers = refl; leaves = refl };

@@ -25,5 +25,6 @@ returns c =
       homes = refl;
       count = refl;
       calls = listed-all blocks _ _ n (omega arith) (rw e at p.invariant.each) ∙ ap (map (λ b. called_by b.instruction)) (take-length blocks);
+      few = p.invariant.few;
       tabled = record { few = c.requires; few_names = λ b _. p.invariant.few b };
     }
