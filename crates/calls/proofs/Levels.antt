@@ -1,7 +1,7 @@
 -- Nine levels decide code 15: a label that is nine deep is over, and one that is less deep has its own peak. For `main_peak`.
 -- Assumes that code 14 passed.
 use mathlib.Core.Path.{◌≡◌, refl, sym, ap, ◌∙◌}
-use mathlib.Core.Bool.{Bool, true, false, ◌||◌}
+use mathlib.Core.Bool.{Bool, true, false, ◌||◌, cond}
 use mathlib.Core.List.{List, [], ◌∷◌}
 use mathlib.Core.Logic.{⊎_elim}
 use Prim.Native.Nat.{ℕ, zero, suc, ◌<◌, ◌≤◌, max}
@@ -10,14 +10,13 @@ use native.Mathlib.Omega.{arith}
 use lib.ListN.{length}
 use Rattle.std.proofs.Common.{Some, None}
 use lib.Dec.{eqb, ltb}
-use borrow.Author.Tests.{lt-ltb, le-ltb, ltb-true, ltb-false}
+use borrow.Author.Tests.{lt-ltb, ltb-true, ltb-false}
 use Rattle.rules.specs.Base.{pick}
 use Rattle.rules.specs.Format.{main}
 use Rattle.rules.specs.Calls.{Calling, home_at, calls_at, sum_of, deepest_of, largest, depth, peak, bad15, deepest, most_rows}
 use Rattle.laws.proofs.Search.{lt-or_le}
 use Rattle.laws.specs.Acyclic.{Acyclic}
-use Rattle.calls.specs.Peaks.{over, levels_tried, peak_within, capped, peak_unless_refused}
-use Rattle.laws.proofs.Tests.{never}
+use Rattle.calls.specs.Peaks.{over, levels_tried, peak_within, unless_over, peak_unless_refused}
 use Rattle.laws.proofs.Rank.{largest-same, largest-above}
 use Rattle.laws.proofs.PeakRight.{peak-right}
 
@@ -36,24 +35,17 @@ sum_same f g g' d [] h k = refl
 sum_same f g g' d (l ∷ ls) h k = omega (arith, sum_same f g g' d ls h (omega arith), h l (omega arith))
 
 -- the two tests of code 15, where less than nine deep means the label's own peak, and else over
-decided : (d w p r : ℕ) → (d < levels_tried → w ≡ p) → (levels_tried ≤ d → over ≤ w) → r ≡ capped w
-    → (ltb deepest d || ltb most_rows p ≡ ltb most_rows r) × (ltb deepest d || ltb most_rows p ≡ false → r ≡ p)
-decided d w p r low high e = go (ltb deepest d) refl (ltb most_rows p) refl
+decided : (d w p : ℕ) → (d < levels_tried → w ≡ p) → (levels_tried ≤ d → over ≤ w)
+    → unless_over w ≡ cond (ltb deepest d || ltb most_rows p) None (Some p)
+decided d w p low high = go (ltb deepest d) refl
   where
-    go : (u : Bool) → ltb deepest d ≡ u → (v : Bool) → ltb most_rows p ≡ v → (u || v ≡ ltb most_rows r) × (u || v ≡ false → r ≡ p)
-    go true eu v ev =
+    go : (u : Bool) → ltb deepest d ≡ u → unless_over w ≡ cond (u || ltb most_rows p) None (Some p)
+    go true eu =
         let k = high (ltb-true deepest d eu) in
-        (sym (lt-ltb most_rows r (omega arith)), λ h. never (sym h))
-    go false eu true ev =
+        rw (lt-ltb most_rows w (omega arith)) refl
+    go false eu =
         let a = ltb-false deepest d eu in
-        let k = low (omega arith) in
-        let b = ltb-true most_rows p ev in
-        (sym (lt-ltb most_rows r (omega arith)), λ h. never (sym h))
-    go false eu false ev =
-        let a = ltb-false deepest d eu in
-        let k = low (omega arith) in
-        let b = ltb-false most_rows p ev in
-        (sym (le-ltb most_rows r (omega arith)), λ h. omega arith)
+        rw (low (omega arith)) refl
 
 module _ (t : Calling) where
   largest-over : (f g : ℕ → ℕ) (d l n : ℕ) → ((m : ℕ) → d ≤ f m → over ≤ g m) → d < largest t (deepest_of f) l n
@@ -92,13 +84,6 @@ module _ (t : Calling) where
         ∙ sym ((peak-right t acyclic).peak_is l)
 
     -- main's peak with nine levels is its own, or over where code 15 is given
-    module _ (p : ℕ) (e : p ≡ capped (peak_within t levels_tried main)) where
-      tests : (bad15 t ≡ ltb most_rows p) × (bad15 t ≡ false → p ≡ peak t main)
-      unfolding bad15
-      tests = decided (depth t main) (peak_within t levels_tried main) (peak t main) p (peak-same levels_tried main) (peak-over levels_tried main) e
-
-      pub main_peak-own : p < over → Some p ≡ peak_unless_refused t
-      main_peak-own l = let f : bad15 t ≡ false = tests.0 ∙ le-ltb most_rows p (omega arith) in rw f (ap Some (tests.1 f))
-
-      pub main_peak-refused : over ≤ p → None ≡ peak_unless_refused t
-      main_peak-refused l = let f : bad15 t ≡ true = tests.0 ∙ lt-ltb most_rows p (omega arith) in rw f refl
+    pub main_peak-right : unless_over (peak_within t levels_tried main) ≡ peak_unless_refused t
+    unfolding bad15
+    main_peak-right = decided (depth t main) (peak_within t levels_tried main) (peak t main) (peak-same levels_tried main) (peak-over levels_tried main)
