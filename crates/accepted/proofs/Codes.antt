@@ -23,13 +23,48 @@ use Rattle.step.specs.Planned.{Lent, PlanFit}
 use Rattle.step.specs.Ready.{process_at, here_at, Plans}
 use Rattle.step.specs.declared.plan.Plan.{Plan}
 use Rattle.plans.specs.Known.{Finishes}
-use Rattle.std.specs.Prelude.{Result, Ok, Err, IfOk}
+use Rattle.std.specs.Prelude.{Result, Ok, Err, IfOk, Option, Some, None, IfSome}
+use Rattle.std.specs.Option.{ok_or}
+use Rattle.laws.specs.Found.{or_else}
+use Rattle.accepted.specs.Fitting.{Fitting}
+use Rattle.accepted.proofs.Unfit.{either}
 use Rattle.rules.specs.Codes.{number}
 use Rattle.rules.specs.declared.Code.{Code}
+
+-- what an equation of results says of what they hold
+plan-err : {x : Plan} {c : Code} → ◌≡◌ {A = Result Plan Code} (Ok x) (Err c) → ⊥
+plan-err e = cc
+
+same-err : {x y : Code} → ◌≡◌ {A = Result Plan Code} (Err x) (Err y) → x ≡ y
+same-err e = cc
+
+row-err : {x y : Code} → ◌≡◌ {A = Result ℕ Code} (Err x) (Err y) → x ≡ y
+row-err e = cc
+
+row-ok : {x : ℕ} {c : Code} → ◌≡◌ {A = Result ℕ Code} (Ok x) (Err c) → ⊥
+row-ok e = cc
+
+row-one : {x y : ℕ} → ◌≡◌ {A = Result ℕ Code} (Ok x) (Ok y) → x ≡ y
+row-one e = cc
 
 -- a refusal asks nothing of the words
 pub refusing : {w : List ℕ} {code : Code} {o : Outcome (List ℕ)} → refuse (number code) 0 w ≡ o → Finishes w (Err code) o
 refusing e = record { shown = e; committed = tt }
+
+pub refusing_as : (w : List ℕ) {code : Code} {o : Outcome (List ℕ)} (out : Result Plan Code) → refuse (number code) 0 w ≡ o → out ≡ Err code → Finishes w out o
+refusing_as w (Ok p) e h = absurd (plan-err h)
+refusing_as w (Err c) e h = refusing (ap (λ (x : Code). refuse (number x) 0 w) (same-err h) ∙ e)
+
+-- a row that is found, or none
+pub not-live : (w : List ℕ) (p : ℕ) (o : Option ℕ) (d : Code) → or_else o (live_count w) ≡ row_of w p → Err d ≡ ok_or o Code.NotLive
+    → (live_count w ≡ row_of w p) × (d ≡ Code.NotLive)
+not-live w p None d r e = (r, row-err e)
+not-live w p (Some k) d r e = absurd (row-ok (sym e))
+
+pub a-live : (w : List ℕ) (p : ℕ) (o : Option ℕ) (row : ℕ) → or_else o (live_count w) ≡ row_of w p → IfSome o (λ i. i < live_count w)
+    → Ok row ≡ ok_or o Code.NotLive → (row ≡ row_of w p) × (row < live_count w)
+a-live w p None row r l e = absurd (row-ok e)
+a-live w p (Some k) row r l e = let z = row-one e in (z ∙ r, rw z l)
 
 -- the direction of a number, and the numbers that have none
 ok-one : {x y : Direction} → ◌≡◌ {A = Result Direction Code} (Ok x) (Ok y) → x ≡ y
@@ -52,13 +87,18 @@ a-direction d x e = go (eqb d 0) refl (eqb d 1) refl
         (omega (arith, z), ap numbered (ok-one f) ∙ sym z)
     go false p false q = absurd (ok-err (rw (p, q) at e))
 
-pub no-direction : (d : ℕ) (c : Code) → Err c ≡ directed d → 1 < d
+err-one : {x y : Code} → ◌≡◌ {A = Result Direction Code} (Err x) (Err y) → x ≡ y
+err-one e = cc
+
+pub no-direction : (d : ℕ) (c : Code) → Err c ≡ directed d → (1 < d) × (c ≡ Code.BadDirection)
 no-direction d c e = go (eqb d 0) refl (eqb d 1) refl
   where
-    go : (a : Bool) → eqb d 0 ≡ a → (b : Bool) → eqb d 1 ≡ b → 1 < d
+    go : (a : Bool) → eqb d 0 ≡ a → (b : Bool) → eqb d 1 ≡ b → (1 < d) × (c ≡ Code.BadDirection)
     go true p b q = absurd (ok-err (sym (rw p at e)))
     go false p true q = absurd (ok-err (sym (rw (p, q) at e)))
-    go false p false q = omega (arith, eqb-false d 0 p, eqb-false d 1 q)
+    go false p false q =
+        let f : Err c ≡ Err Code.BadDirection = rw (p, q) at e in
+        (omega (arith, eqb-false d 0 p, eqb-false d 1 q), err-one f)
 
 -- words that pass 17 are lent words
 lent_too : {w : List ℕ} (plan : Result Plan Code) → Lent w → IfOk plan (λ p. PlanFit p (view w)) → IfOk plan (λ p. Lent w × PlanFit p (view w))
@@ -76,12 +116,12 @@ module _ (program : List Block) (m : Machine) (p : ℕ) (here : Place) where
   goes_back d n = rw (ne_eqb d 0 n)
 
 module _ (program : List Block) (w : List ℕ) (p d : ℕ) where
-  pub code-16 : (length w ≡ 8674 → ⊥) → refuse 16 0 w ≡ step_in w p d program
+  code-16 : (length w ≡ 8674 → ⊥) → refuse 16 0 w ≡ step_in w p d program
   unfolding step_in pick
   code-16 n = rw (ne_eqb (length w) 8674 n)
 
   module _ (l : length w ≡ 8674) where
-    pub code-17 : fits program w ≡ false → refuse 17 0 w ≡ step_in w p d program
+    code-17 : fits program w ≡ false → refuse 17 0 w ≡ step_in w p d program
     unfolding step_in pick
     code-17 f = rw (eq-eqb (length w) 8674 l, f)
 
@@ -112,3 +152,7 @@ module _ (program : List Block) (w : List ℕ) (p d : ℕ) where
                   ∙ standing-in;
               committed = lent_too plan t s.fit;
             }
+
+  -- 16 or 17, whichever it is
+  pub code-unfit : (code : Code) → Fitting program w (Err code) → refuse (number code) 0 w ≡ step_in w p d program
+  code-unfit code u = either program w (λ n. refuse n 0 w ≡ step_in w p d program) code-16 code-17 code u

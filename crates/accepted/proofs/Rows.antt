@@ -18,6 +18,15 @@ use Rattle.rules.specs.Words.{refuse, accept}
 use Rattle.rules.specs.List.{code_of, row_of, zero_row, rows_of, list_in}
 use Rattle.rules.specs.declared.Block.{Block}
 use Rattle.rules.specs.declared.Row.{Row}
+use Rattle.rules.specs.declared.Code.{Code}
+use Rattle.rules.specs.Codes.{number}
+use Rattle.std.specs.Prelude.{Result, Err}
+use Rattle.rules.specs.declared.Refused.{Refused}
+use Rattle.std.specs.Result.{IsErrAnd}
+use Rattle.std.proofs.lemmas.Result.{err_from_is_err_and}
+use Rattle.accepted.specs.Listed.{listed}
+use Rattle.accepted.specs.Fitting.{Fitting}
+use Rattle.accepted.proofs.Unfit.{either}
 use Rattle.laws.proofs.View.{no_row, row-at, length-rows}
 use Rattle.step.specs.Ready.{process_at, here_at}
 
@@ -95,14 +104,24 @@ module _ (program : List Block) (w : List ℕ) where
 
   -- ---- the list's codes, in their order, into any 64 rows
   module _ (lent : List Row) (size : length lent ≡ 64) where
-    pub list-16 : (length w ≡ 8674 → ⊥) → refuse 16 0 lent ≡ list_in w lent program
+    list-16 : (length w ≡ 8674 → ⊥) → refuse 16 0 lent ≡ list_in w lent program
     unfolding list_in pick
     list-16 n = rw (ne_eqb (length w) 8674 n)
 
-    pub list-17 : length w ≡ 8674 → fits program w ≡ false → refuse 17 0 lent ≡ list_in w lent program
+    list-17 : length w ≡ 8674 → fits program w ≡ false → refuse 17 0 lent ≡ list_in w lent program
     unfolding list_in pick
     list-17 l f = rw (eq-eqb (length w) 8674 l, eq-eqb (length lent) 64 size, f)
+
+    pub list-unfit : (code : Code) → Fitting program w (Err code) → refuse (number code) 0 lent ≡ list_in w lent program
+    list-unfit code u = either program w (λ n. refuse n 0 lent ≡ list_in w lent program) list-16 list-17 code u
 
     pub list-made : length w ≡ 8674 → fits program w ≡ true → accept (rows_of program (view w)) ≡ list_in w lent program
     unfolding list_in pick
     list-made l f = rw (eq-eqb (length w) 8674 l, eq-eqb (length lent) 64 size, f)
+
+-- what `?` hands on is the code, at place 0
+pub listed-err : (out : Result (List Row) Refused) (code : Code) → IsErrAnd out (λ x. x ≡ record { code = code; place = 0 })
+    → (lent : List Row) → listed out lent ≡ refuse (number code) 0 lent
+listed-err out code w lent =
+    let p = err_from_is_err_and out w in
+    ap (λ (r : Result (List Row) Refused). listed r lent) (p.1 ∙ ap Err p.2)

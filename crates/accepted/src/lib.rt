@@ -14,6 +14,7 @@ ghost use Rattle.places.specs.Places.{PlacesOf};
 ghost use Rattle.step.specs.Ready.{process_at, here_at, Plans};
 ghost use Rattle.plans.specs.Known.{Known, Finishes};
 ghost use Rattle.accepted.specs.Direction.{numbered};
+ghost use Rattle.accepted.specs.Fitting.{Fitting};
 
 use direction::Direction;
 use masks::Masks;
@@ -22,13 +23,28 @@ use rules::{Block, Code};
 use step::plan::Plan;
 
 // The machine fits the image.
-pub fn machine_fits(m: &[u32], blocks: &[Block], places: &Places) -> bool
+fn machine_fits(m: &[u32], blocks: &[Block], places: &Places) -> bool
     requires { (length m.now ≡ 8674) × (length blocks.now ≤ 128) × PlacesOf blocks.now places.now }
     ensures { result ≡ Rules.fits blocks.now m.now }
 {
     let processes = processes::process_blocks(blocks);
     let calls = called::call_table(blocks, processes.homes);
     fits::fits(m, places, &calls)
+}
+
+// Codes 16 and 17, then the tables of places that the rest of a step or of the list works with.
+fn fitting(m: &[u32], blocks: &[Block]) -> Result<Places, Code>
+    requires { length blocks.now ≤ 128 }
+    ensures { Fitting blocks.now m.now result }
+{
+    if m.len() != machine::WORDS {
+        return Err(Code::SliceLength);
+    }
+    let places = Places::of(blocks);
+    if !machine_fits(m, blocks, &places) {
+        return Err(Code::Unfit);
+    }
+    Ok(places)
 }
 
 // The plan of a step of a live process.
@@ -53,18 +69,8 @@ pub fn plan_on(m: &[u32], blocks: &[Block], process: u32, direction: u32) -> Res
     requires { Sound blocks.now × (length blocks.now ≤ 128) }
     ensures { Finishes m.now result (step_in m.now process direction blocks.now) }
 {
-    if m.len() != machine::WORDS {
-        return Err(Code::SliceLength);
-    }
-    let places = Places::of(blocks);
-    if !machine_fits(m, blocks, &places) {
-        return Err(Code::Unfit);
-    }
-    let Ok(direction) = Direction::try_from(direction) else {
-        return Err(Code::BadDirection);
-    };
-    let Some(row) = machine::find::row_of(m, process) else {
-        return Err(Code::NotLive);
-    };
+    let places = fitting(m, blocks)?;
+    let direction = Direction::try_from(direction)?;
+    let row = machine::find::row_of(m, process).ok_or(Code::NotLive)?;
     plan_of(m, blocks, &places, row, direction)
 }

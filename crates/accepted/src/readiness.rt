@@ -68,12 +68,6 @@ pub fn ready_on(m: &[u32], blocks: &[Block]) -> Result<[Row; 64], Refused>
     requires { Sound blocks.now × (length blocks.now ≤ 128) }
     ensures { (lent : List Declared.Row) → length lent ≡ 64 → listed result lent ≡ list_in m.now lent blocks.now }
 {
-    if m.len() != machine::WORDS {
-        return Err(Refused::from(Code::SliceLength));
-    }
-    let places = Places::of(blocks);
-    if !super::machine_fits(m, blocks, &places) {
-        return Err(Refused::from(Code::Unfit));
-    }
+    let places = super::fitting(m, blocks)?;
     Ok(rows_of(m, blocks, &places))
 }
