@@ -7,24 +7,24 @@ use mathlib.Core.Path.{◌≡◌, refl, sym, ap, subst, fun_ext, ◌∙◌}
 use mathlib.Core.Bool.{Bool, true, false, not, ◌&&◌}
 use mathlib.Core.Logic.{⊎_elim}
 use mathlib.Core.List.{List, [], ◌∷◌, ◌++◌, map, append_assoc, append-nil}
-use lib.ListN.{length, take, get_or, set, length-set, length-append, length-map, get_or-eq_default}
+use lib.ListN.{length, take, get_or, length-set, length-append, length-map, get_or-eq_default}
 use lib.Seq.{length-take-le, get_or-take, ext_get_or}
 use lib.Dec.{eqb}
-use borrow.Author.Tests.{eq-eqb, ne_eqb, eqb-true}
+use borrow.Author.Tests.{ne_eqb, eqb-true}
+use Rattle.std.specs.Prelude.{Option, None, slice_get}
+use Rattle.std.specs.Option.{option_eq, option_or, unwrap_or}
 use Rattle.std.specs.Array.{IsFromFnResultFrom}
-use Rattle.std.proofs.lemmas.List.{set-get_or}
 use Rattle.rules.specs.Base.{pick, up_from}
 use Rattle.rules.specs.Labels.{label_node, ordinary_labels, renamed, join_nodes, join_labels, groups_from, groups}
 use Rattle.rules.specs.Labels.{within, own_begins, own_ends, begin_labels, one_label, bad11, home}
 use Rattle.rules.specs.declared.Block.{Block}
 use Rattle.laws.specs.Found.{found}
-use Rattle.laws.proofs.Lists.{pick_true, pick-false}
 use Rattle.laws.proofs.Search.{lt-or_le}
 use Rattle.groups.specs.Nodes.{all_nodes}
 use Rattle.processes.specs.declared.own.Own.{Own}
 use Rattle.processes.specs.declared.tally.Tally.{Tally}
 use Rattle.processes.specs.Below.{Below}
-use Rattle.processes.specs.Own.{blank_tally, noted, Tallied, OwnOf, one_at}
+use Rattle.processes.specs.Own.{blank_tally, noted, Tallied, OwnOf, one_at, first_begin}
 use Rattle.short.specs.Low.{most}
 use Rattle.short.proofs.Programs.{get_or-same, get_d_set}
 use Rattle.groups.proofs.Grouping.{get_d_map, length-up_from, get_or-up_from}
@@ -95,27 +95,20 @@ module _ (stands : Block → List ℕ) (short : (b : Block) → length (stands b
   tallied-room program t few h = omega (arith, h.many g, within-le 0 program)
 
 -- what a group's tally becomes where its list gets more
-module _ (l m : List ℕ) (count first : ℕ) (t : Bool) (c : count ≡ length l) (f : first ≡ get_or l 0 0) where
-  many_more : pick t (count + length m) count ≡ length (l ++ pick t m [])
-  unfolding pick
-  many_more = rw c (go t)
-    where
-      go : (t : Bool) → pick t (length l + length m) (length l) ≡ length (l ++ pick t m [])
-      go true = sym (length-append l m)
-      go false = sym (ap length (append-nil l))
+many_more : (l m : List ℕ) (t : Bool) → pick t (length l + length m) (length l) ≡ length (l ++ pick t m [])
+unfolding pick
+many_more l m true = sym (length-append l m)
+many_more l m false = sym (ap length (append-nil l))
 
-  first_more : pick t (pick (eqb count 0) (get_or m 0 0) first) first ≡ get_or (l ++ pick t m []) 0 0
-  unfolding pick
-  first_more = rw (c, f) (go l t)
-    where
-      go : (l : List ℕ) (t : Bool) → pick t (pick (eqb (length l) 0) (get_or m 0 0) (get_or l 0 0)) (get_or l 0 0) ≡ get_or (l ++ pick t m []) 0 0
-      go [] true = refl
-      go (x ∷ l) true = rw (ne_eqb (suc (length l)) 0 (λ q. omega arith))
-      go [] false = refl
-      go (x ∷ l) false = refl
+first_more : (l m : List ℕ) (t : Bool) → pick t (option_or (slice_get l 0) (slice_get m 0)) (slice_get l 0) ≡ slice_get (l ++ pick t m []) 0
+unfolding pick
+first_more [] m true = refl
+first_more (x ∷ l) m true = refl
+first_more [] m false = refl
+first_more (x ∷ l) m false = refl
 
 -- at the place itself the other place's value is the same
-pick_at : (g x : ℕ) (f : ℕ → ℕ) (z : ℕ) → pick (eqb g x) (f g) z ≡ pick (eqb g x) (f x) z
+pick_at : {A : Type 0} (g x : ℕ) (f : ℕ → A) (z : A) → pick (eqb g x) (f g) z ≡ pick (eqb g x) (f x) z
 unfolding pick
 pick_at g x f z = go (eqb g x) refl
   where
@@ -124,30 +117,10 @@ pick_at g x f z = go (eqb g x) refl
     go false e = refl
 
 -- ---- tallies
--- the first label noted stays
-module _ (t s : Tally) (g : ℕ) (labels l : List ℕ) (first : ℕ) where
-  abbrev now : ℕ → Tally
-  now v = record { counts = t.counts; firsts = set t.firsts g v }
-
-  abbrev more : Tally → List ℕ → Tally
-  more s l = record { counts = set s.counts g (get_or s.counts g 0 + length l); firsts = s.firsts }
-
-  pub noted-first : get_or t.counts g 0 ≡ 0 → first ≡ get_or labels 0 0 → s ≡ now first → l ≡ labels → more s l ≡ noted t g labels
-  noted-first e f h k =
-      rw (h, k, f)
-      (ap (λ (v : ℕ). more (now v) labels) (sym (pick_true (eqb (get_or t.counts g 0) 0) (get_or labels 0 0) (get_or t.firsts g 0) (eq-eqb _ _ e))))
-
-  pub noted-later : (get_or t.counts g 0 ≡ 0 → ⊥) → s ≡ t → l ≡ labels → more s l ≡ noted t g labels
-  noted-later n h k =
-      rw (h, k)
-      (ap (λ (x : List ℕ). more (record { counts = t.counts; firsts = x }) labels)
-      (sym
-      (ap (set t.firsts g) (pick-false (eqb (get_or t.counts g 0) 0) (get_or labels 0 0) (get_or t.firsts g 0) (ne_eqb _ _ n)) ∙ set-get_or t.firsts g 0)))
-
 pub tallied-none : (stands : Block → List ℕ) (gs : List ℕ) → Tallied stands gs [] blank_tally
 unfolding within
 tallied-none stands gs =
-    record { all_counts = refl; all_firsts = refl; many = λ g. get_or-same all_nodes g 0; first = λ g. get_or-same all_nodes g 0 }
+    record { all_counts = refl; all_firsts = refl; many = λ g. get_or-same all_nodes g 0; first = λ g. get_or-same all_nodes g None }
 
 module _ (stands : Block → List ℕ) (gs : List ℕ) (program : List Block) (t : Tally) (h : Tallied stands gs program t) (b : Block) (g : ℕ)
     (e : g ≡ get_or gs (length program) 0) (s : g < all_nodes) where
@@ -163,15 +136,15 @@ module _ (stands : Block → List ℕ) (gs : List ℕ) (program : List Block) (t
   many-after x =
       get_d_set t.counts g x (get_or t.counts g 0 + length (stands b)) 0 (rw h.all_counts s)
       ∙ pick_at g x (λ y. get_or t.counts y 0 + length (stands b)) (get_or t.counts x 0)
-      ∙ many_more (within stands gs x 0 program) (stands b) (get_or t.counts x 0) (get_or t.firsts x 0) (eqb g x) (h.many x) (h.first x)
+      ∙ rw (h.many x) (many_more (within stands gs x 0 program) (stands b) (eqb g x))
       ∙ ap length (sym (grown x))
 
-  first-after : (x : ℕ) → get_or (noted t g (stands b)).firsts x 0 ≡ get_or (within stands gs x 0 (program ++ b ∷ [])) 0 0
+  first-after : (x : ℕ) → get_or (noted t g (stands b)).firsts x None ≡ slice_get (within stands gs x 0 (program ++ b ∷ [])) 0
   first-after x =
-      get_d_set t.firsts g x _ 0 (rw h.all_firsts s)
-      ∙ pick_at g x (λ y. pick (eqb (get_or t.counts y 0) 0) (get_or (stands b) 0 0) (get_or t.firsts y 0)) (get_or t.firsts x 0)
-      ∙ first_more (within stands gs x 0 program) (stands b) (get_or t.counts x 0) (get_or t.firsts x 0) (eqb g x) (h.many x) (h.first x)
-      ∙ ap (λ (l : List ℕ). get_or l 0 0) (sym (grown x))
+      get_d_set t.firsts g x _ None (rw h.all_firsts s)
+      ∙ pick_at g x (λ y. option_or (get_or t.firsts y None) (slice_get (stands b) 0)) (get_or t.firsts x None)
+      ∙ rw (h.first x) (first_more (within stands gs x 0 program) (stands b) (eqb g x))
+      ∙ ap (λ (l : List ℕ). slice_get l 0) (sym (grown x))
 
   pub tallied-more : (labels : List ℕ) (u : Tally) → labels ≡ stands b → u ≡ noted t g labels → Tallied stands gs (program ++ b ∷ []) u
   tallied-more labels u l n =
@@ -184,12 +157,17 @@ module _ (stands : Block → List ℕ) (gs : List ℕ) (program : List Block) (t
       }
 
 -- ---- code 11 and the labels of process blocks
-one-label_is : (l m : List ℕ) → (eqb (length l) 1 && (eqb (length m) 1 && eqb (get_or l 0 0) (get_or m 0 0))) ≡ one_label l m
+one-label_is : (l m : List ℕ) → (eqb (length l) 1 && (eqb (length m) 1 && option_eq eqb (slice_get l 0) (slice_get m 0))) ≡ one_label l m
 one-label_is [] m = refl
 one-label_is (x ∷ []) [] = refl
 one-label_is (x ∷ []) (y ∷ []) = refl
 one-label_is (x ∷ []) (y ∷ z ∷ m) = rw (ne_eqb (suc (suc (length m))) 1 (λ q. omega arith))
 one-label_is (x ∷ k ∷ l) m = rw (ne_eqb (suc (suc (length l))) 1 (λ q. omega arith))
+
+-- the first of a list, or 0
+first-or_0 : (l : List ℕ) → unwrap_or (slice_get l 0) 0 ≡ get_or l 0 0
+first-or_0 [] = refl
+first-or_0 (x ∷ l) = refl
 
 module _ (program : List Block) (gs : List ℕ) (o : Own) (e : gs ≡ groups program) (h : OwnOf gs program o) where
   pub bad11-is : (b : ℕ) → not (one_at o (get_or gs b 0)) ≡ bad11 program b
@@ -198,11 +176,14 @@ module _ (program : List Block) (gs : List ℕ) (o : Own) (e : gs ≡ groups pro
       let g = get_or gs b 0 in
       rw (h.begins.many g, h.ends.many g, h.begins.first g, h.ends.first g, e) (ap not (one-label_is (own_begins program b) (own_ends program b)))
 
-  pub home-is : (b : ℕ) → get_or o.begins.firsts (get_or gs b 0) 0 ≡ home program b
+  pub home-is : (b : ℕ) → first_begin o (get_or gs b 0) ≡ home program b
   unfolding home own_begins
-  home-is b = h.begins.first (get_or gs b 0) ∙ ap (λ (x : List ℕ). get_or (within (λ c. begin_labels c.entry) x (get_or x b 0) 0 program) 0 0) e
+  home-is b =
+      ap (λ (f : Option ℕ). unwrap_or f 0) (h.begins.first (get_or gs b 0))
+      ∙ first-or_0 (within (λ c. begin_labels c.entry) gs (get_or gs b 0) 0 program)
+      ∙ ap (λ (x : List ℕ). get_or (within (λ c. begin_labels c.entry) x (get_or x b 0) 0 program) 0 0) e
 
-  pub homes-are : (homes : List ℕ) (n : ℕ) → n ≤ length homes → ((b : ℕ) → b < n → get_or homes b 0 ≡ get_or o.begins.firsts (get_or gs b 0) 0)
+  pub homes-are : (homes : List ℕ) (n : ℕ) → n ≤ length homes → ((b : ℕ) → b < n → get_or homes b 0 ≡ first_begin o (get_or gs b 0))
       → take n homes ≡ map (home program) (up_from 0 n)
   homes-are homes n long each =
       let all : length (take n homes) ≡ n = length-take-le n homes long in

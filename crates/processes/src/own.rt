@@ -4,7 +4,7 @@ ghost use Rattle.std.specs.Prelude.{ℕ, not, ◌≡◌, ◌<◌, ◌≤◌, len
 ghost use Rattle.rules.specs.Format.{most_blocks};
 ghost use Rattle.laws.specs.Found.{found};
 ghost use Rattle.groups.specs.Nodes.{all_nodes};
-ghost use Rattle.processes.specs.Own.{OwnOf, one_at};
+ghost use Rattle.processes.specs.Own.{OwnOf, one_at, first_begin};
 
 use super::grouped::Groups;
 use super::tally::Tally;
@@ -51,17 +51,17 @@ impl Own {
         (0..n).position(|b| !self.is_whole(groups.of_block(b)))
     }
 
-    // The label of block b's process block: its group's first begin.
+    // The label of block b's process block: its group's first begin, or 0.
     fn home(&self, b: usize, groups: &Groups) -> u8
         requires { b < most_blocks }
-        ensures { result ≡ get_or self.now.begins.firsts (get_or groups.now.numbers b 0) 0 }
+        ensures { result ≡ first_begin self.now (get_or groups.now.numbers b 0) }
     {
-        self.begins.firsts[groups.of_block(b)]
+        self.begins.firsts[groups.of_block(b)].unwrap_or(0)
     }
 
     // That of each block.
     pub fn homes(&self, groups: &Groups) -> [u8; 128]
-        ensures { (b : ℕ) → b < most_blocks → get_or result b 0 ≡ get_or self.now.begins.firsts (get_or groups.now.numbers b 0) 0 }
+        ensures { (b : ℕ) → b < most_blocks → get_or result b 0 ≡ first_begin self.now (get_or groups.now.numbers b 0) }
     {
         std::array::from_fn(|b| self.home(b, groups))
     }

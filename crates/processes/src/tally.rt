@@ -1,4 +1,4 @@
-// The begins of each group of blocks, or the ends: how many there are, and the first one's label.
+// The begins of each group of blocks, or the ends: how many there are, and the first one's label, if there is one.
 
 ghost use Rattle.std.specs.Prelude.{◌≡◌, ◌<◌, ◌≤◌, get_or};
 ghost use Rattle.groups.specs.Nodes.{all_nodes};
@@ -13,7 +13,7 @@ use short::Few;
 #[derive(Drop)]
 pub struct Tally {
     pub counts: [u16; NODES],
-    pub firsts: [u8; NODES],
+    pub firsts: [Option<u8>; NODES],
 }
 
 impl Tally {
@@ -22,7 +22,7 @@ impl Tally {
     {
         Tally {
             counts: [0; NODES],
-            firsts: [0; NODES],
+            firsts: [None; NODES],
         }
     }
 
@@ -31,10 +31,7 @@ impl Tally {
         requires { (g < all_nodes) × (get_or self.old.counts g 0 ≤ most) }
         ensures { self.new ≡ noted self.old g (few list) }
     {
-        let none_yet = self.counts[g] == 0;
-        if none_yet {
-            self.firsts[g] = list.first();
-        }
+        self.firsts[g] = self.firsts[g].or(list.first());
         self.counts[g] += list.labels().len() as u16;
     }
 }

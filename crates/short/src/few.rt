@@ -11,7 +11,7 @@ pub struct Few {
 }
 
 impl Few {
-    ghost use Rattle.std.specs.Prelude.{[], ◌∷◌, ◌≡◌, get_or, take};
+    ghost use Rattle.std.specs.Prelude.{[], ◌∷◌, ◌≡◌, slice_get, take};
     ghost use Rattle.short.specs.Few.{few};
 
     // The most labels that a list holds: a call names so many.
@@ -60,13 +60,9 @@ impl Few {
         &self.labels[..self.count]
     }
 
-    // The first of them, or 0.
-    pub fn first(&self) -> u8
-        ensures { result ≡ get_or (few self.now) 0 0 }
+    pub fn first(&self) -> Option<u8>
+        ensures { result ≡ slice_get (few self.now) 0 }
     {
-        match self.labels() {
-            [] => 0,
-            [first, ..] => *first,
-        }
+        self.labels().first().copied()
     }
 }
