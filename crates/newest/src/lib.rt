@@ -54,7 +54,9 @@ fn newest_fits(m: &[u32], newest: &[Option<u32>; 64], places: &Places, i: usize)
     ensures { (program : List Block) → Exits program places.now → result ≡ newest_fits program (view m.now).history (row_at m.now i) }
 {
     let stage = m[STAGE + 3 * i];
-    let block = places.exit_block(m[LABEL + 3 * i], stage);
+    let block = places
+        .exit_block(m[LABEL + 3 * i], stage)
+        .unwrap_or(places.count);
     stage == Place::BEGIN || is_newest(newest[i], block)
 }
 

@@ -35,8 +35,10 @@ fn stands_in(places: &Places, calls: &Calls, l: u8, label: u32, stage: u32) -> b
     if stage == Place::BEGIN || stage == Place::END {
         return label == u32::from(l);
     }
-    let b = places.entry_block(label, stage);
-    b < calls.count && calls.homes[b] == l
+    match places.entry_block(label, stage) {
+        Some(b) if b < calls.count => calls.homes[b] == l,
+        _ => false,
+    }
 }
 
 // The labels of the call at whose exit label the place is; none at any other place.
@@ -44,12 +46,13 @@ pub fn called_at<'a>(places: &Places, calls: &'a Calls, label: u32, stage: u32) 
     requires { calls.now.count ≤ most_blocks }
     ensures { (program : List Block) → Exits program places.now → CallsIn program calls.now → result.now ≡ called_at program (place label stage) }
 {
-    let b = places.exit_block(label, stage);
-    if calls.count <= b {
-        return &[];
+    match places.exit_block(label, stage) {
+        Some(b) if b < calls.count => {
+            let first = MOST_CALLED * b;
+            &calls.names[first..first + MOST_CALLED.min(usize::from(calls.counts[b]))]
+        }
+        _ => &[],
     }
-    let first = MOST_CALLED * b;
-    &calls.names[first..first + MOST_CALLED.min(usize::from(calls.counts[b]))]
 }
 
 // The i-th label, counted from 1.

@@ -1,12 +1,13 @@
 // The block at a place, document 01: for each label the block whose entry holds it and the block whose exit does, as tables of a
-// byte a label. Where no block does, a table has the number of blocks.
+// byte a label. Where no block does, a table has the number of blocks, and a look-up answers None.
 #![tactic(auto)]
 
-ghost use Rattle.std.specs.Prelude.{List, ◌≡◌, ◌≤◌, length, get_or};
+ghost use Rattle.std.specs.Prelude.{List, ◌≡◌, ◌≤◌, ◌<◌, length, get_or, IfSome};
 ghost use Rattle.rules.specs.Format.{most_blocks};
 ghost use Rattle.rules.specs.Machine.{place};
 ghost use Rattle.rules.specs.Fits.{entry_block, exit_block};
 ghost use Rattle.rules.specs.declared.Block.{Block};
+ghost use Rattle.laws.specs.Found.{or_else};
 ghost use Rattle.places.specs.Places.{Noted, Entries, Exits, PlacesOf};
 
 use rules::{Block, Place};
@@ -32,13 +33,14 @@ fn note(table: &mut [u8; 256], labels: &[u8], b: u8)
     }
 }
 
-// What a table has for a label; none where the label is over 255.
-fn at(table: &[u8; 256], label: u32, none: usize) -> usize
-    ensures { result ≡ get_or table.now label none }
+// The block that a table of `count` blocks has for a label; none where the label is over 255.
+fn at(table: &[u8; 256], label: u32, count: usize) -> Option<usize>
+    ensures block { get_or table.now label count ≤ count → or_else result count ≡ get_or table.now label count }
+    ensures below { IfSome result (λ b. b < count) }
 {
     match table.get(label as usize) {
-        Some(block) => usize::from(*block),
-        None => none,
+        Some(block) if usize::from(*block) < count => Some(usize::from(*block)),
+        _ => None,
     }
 }
 
@@ -67,25 +69,27 @@ impl Places {
         places
     }
 
-    // The block whose entry holds the place, the number of blocks where there is none.
-    pub fn entry_block(&self, label: u32, stage: u32) -> usize
-        ensures { (program : List Block) → Entries program self.now → result ≡ entry_block program (place label stage) }
+    // The block whose entry holds the place.
+    pub fn entry_block(&self, label: u32, stage: u32) -> Option<usize>
+        ensures block { (program : List Block) → Entries program self.now → or_else result self.now.count ≡ entry_block program (place label stage) }
+        ensures below { IfSome result (λ b. b < self.now.count) }
     {
         match stage {
             Place::RUN => at(&self.entry, label, self.count),
             Place::BEGIN => at(&self.begin, label, self.count),
-            _ => self.count,
+            _ => None,
         }
     }
 
-    // The block whose exit holds the place, the number of blocks where there is none.
-    pub fn exit_block(&self, label: u32, stage: u32) -> usize
-        ensures { (program : List Block) → Exits program self.now → result ≡ exit_block program (place label stage) }
+    // The block whose exit holds the place.
+    pub fn exit_block(&self, label: u32, stage: u32) -> Option<usize>
+        ensures block { (program : List Block) → Exits program self.now → or_else result self.now.count ≡ exit_block program (place label stage) }
+        ensures below { IfSome result (λ b. b < self.now.count) }
     {
         match stage {
             Place::RUN => at(&self.exit, label, self.count),
             Place::END => at(&self.end, label, self.count),
-            _ => self.count,
+            _ => None,
         }
     }
 }

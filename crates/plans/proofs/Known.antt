@@ -24,7 +24,6 @@ use Rattle.laws.proofs.Tests.{and-true, true_false}
 use Rattle.laws.proofs.Ascending.{apart, none_below, standing-at}
 use Rattle.laws.proofs.View.{no_row, no_entry, row-at, kept-at, length-rows, length-history}
 use Rattle.laws.proofs.Lists.{each_at}
-use Rattle.ordered.proofs.Standing.{lowest-le}
 use Rattle.theorems.specs.Program.{Sound}
 use Rattle.theorems.specs.Fitted.{no_zeroth, shallow}
 use Rattle.step.specs.Planned.{Lent}
@@ -41,15 +40,7 @@ standing-row rows i a h =
     let b = (apart (take i rows) r (drop (suc i) rows) (subst (λ (l : List Process). ascending l ≡ true) e a)).before in
     ap (λ (l : List Process). standing l r.identifier) e ∙ standing-at (take i rows) r (drop (suc i) rows) (none_below r.identifier (take i rows) b)
 
--- ---- the block at a place
-pub entry-le : (program : List Block) (q : Place) → entry_block program q ≤ length program
-unfolding entry_block
-entry-le program q = lowest-le _ (length program)
-
-pub exit-le : (program : List Block) (q : Place) → exit_block program q ≤ length program
-unfolding exit_block
-exit-le program q = lowest-le _ (length program)
-
+-- ---- the blocks
 -- every block is fit, and so is the one that stands for none
 any_fit : (program : List Block) → Sound program → (b : ℕ) → BlockFit (block_of program b)
 any_fit program s b = go (dec_lt b (length program))

@@ -21,10 +21,7 @@ use step::plan::Plan;
 fn block_at(blocks: &[Block], b: usize) -> Block
     ensures { result ≡ block_of blocks.now b }
 {
-    match blocks.get(b) {
-        Some(block) => *block,
-        None => laws::no_block(),
-    }
+    blocks.get(b).copied().unwrap_or(laws::no_block())
 }
 
 // What a forward step of the process of a row would do.
@@ -33,8 +30,12 @@ pub fn forward_plan(m: &[u32], blocks: &[Block], places: &Places, row: usize) ->
     ensures { Plans m.now result (forward blocks.now (view m.now) (process_at m.now row) (here_at m.now row)) }
 {
     let here = Process::of_row(m, row).stands;
-    let into = places.entry_block(here.label, here.stage);
-    let out = places.exit_block(here.label, here.stage);
+    let into = places
+        .entry_block(here.label, here.stage)
+        .unwrap_or(places.count);
+    let out = places
+        .exit_block(here.label, here.stage)
+        .unwrap_or(places.count);
     let block = block_at(blocks, into);
     forward::forward(m, row, into as u32, out as u32, &block)
 }
@@ -51,7 +52,9 @@ pub fn undo_plan(
     ensures { Plans m.now result (undo blocks.now (view m.now) (process_at m.now row) (here_at m.now row)) }
 {
     let here = Process::of_row(m, row).stands;
-    let out = places.exit_block(here.label, here.stage);
+    let out = places
+        .exit_block(here.label, here.stage)
+        .unwrap_or(places.count);
     let block = block_at(blocks, out);
     undo::undo(m, masks, row, &block)
 }

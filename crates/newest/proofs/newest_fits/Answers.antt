@@ -3,6 +3,7 @@ use Rattle.std.proofs.Common.{◌∙◌}
 use borrow.Author.Tests.{eq-eqb, ne_eqb}
 use Rattle.std.proofs.Math.Path.{ap₂}
 use Rattle.rules.specs.Fits.{is_block, newest_fits}
+use Rattle.places.proofs.Looking.{unwrapped}
 use Rattle.newest.proofs.newest_fits.Goals as goal
 
 pub returns-then-stage-eq-BEGIN : goal.returns-then-stage-eq-BEGIN
@@ -16,4 +17,5 @@ returns-else-stage-eq-BEGIN c = λ program x.
     let i = c.args.i in
     rw (ne_eqb _ _ c.if-stage-eq-BEGIN.false)
     (c.is_newest.ensures
-    ∙ ap₂ is_block (c.requires.1 i c.requires.2) (c.exit_block-block.ensures program x))
+    ∙ ap₂ is_block (c.requires.1 i c.requires.2)
+    (c.unwrap_or-block.ensures ∙ unwrapped c.exit_block.result c.args.places.now.count ∙ c.exit_block.ensures.block program x))

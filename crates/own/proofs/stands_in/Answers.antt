@@ -1,6 +1,5 @@
 -- At begin and end by the label alone, at run by the block.
 use Rattle.std.proofs.Common.{sym, ap, ◌∙◌, eqb, arith, ℕ}
-use borrow.Author.Tests.{le-ltb}
 use Rattle.own.proofs.Placing.{stands-begin, stands-end, stands-nowhere, stands-run, home-at}
 use Rattle.own.proofs.stands_in.Goals as goal
 use Rattle.own.proofs.stands_in.Goals.{then-stage-eq-BEGIN-via-then-stage-eq-BEGIN, then-stage-eq-BEGIN-via-else-stage-eq-BEGIN+then-stage-eq-END}
@@ -16,22 +15,29 @@ returns-then-stage-eq-BEGIN c = λ program t h.
           stands-end program a.l a.label a.stage w.if-stage-eq-BEGIN.false w.if-stage-eq-END.true
     ])
 
-pub returns-then-b-calls : goal.returns-then-b-calls
-returns-then-b-calls c = λ program t h.
+pub returns-in-Some : goal.returns-in-Some
+returns-in-Some c = λ program t h.
     let a = c.args in
     let n = t.count in
     let k = h.count in
     ap (λ (x : ℕ). eqb x a.l) (home-at program a.calls.now _ h (omega arith))
     ∙ sym
     (stands-run program a.l a.label a.stage c.if-stage-eq-BEGIN.false c.if-stage-eq-END.false _
-    (c.entry_block-b.ensures program t) (omega arith))
+    (c.in-Some.ensures.block program t) (omega arith))
 
-pub returns-else-b-calls : goal.returns-else-b-calls
-returns-else-b-calls c = λ program t h.
+pub returns-in_default : goal.returns-in_default
+returns-in_default c = λ program t h.
     let a = c.args in
     let n = t.count in
     let k = h.count in
-    le-ltb _ _ c.if-b-calls.false
-    ∙ sym
+    sym
     (stands-nowhere program a.l a.label a.stage c.if-stage-eq-BEGIN.false c.if-stage-eq-END.false _
-    (c.entry_block-b.ensures program t) (omega arith))
+    (c.in-Some.ensures.block program t) (omega arith))
+
+pub returns-in_default-2 : goal.returns-in_default-2
+returns-in_default-2 c = λ program t h.
+    let a = c.args in
+    let n = t.count in
+    sym
+    (stands-nowhere program a.l a.label a.stage c.if-stage-eq-BEGIN.false c.if-stage-eq-END.false _
+    (c.in_default.ensures.block program t) (omega arith))
