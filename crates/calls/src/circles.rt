@@ -36,12 +36,12 @@ fn direct_row(calls: &Calls, b: usize) -> u128
 }
 
 // What each block's own call names.
-fn direct(calls: &Calls, grid: &mut [u128; BLOCKS])
-    requires { Tabled calls.now }
+fn direct(calls: &Calls, grid: &mut [u128])
+    requires { Tabled calls.now × (length grid.old ≡ calls.now.count) }
     ensures { Reaching (calling calls.now) calls.now.count 0 grid.new }
 {
-    for b in 0..calls.count {
-        grid[b] = direct_row(calls, b);
+    for (b, row) in grid.iter_mut().enumerate() {
+        *row = direct_row(calls, b);
     }
 }
 
@@ -54,24 +54,24 @@ fn joined(row: u128, m: usize, row_of_m: u128) -> u128
 }
 
 // Every row with what block m adds to it.
-fn onward(count: usize, m: usize, grid: &mut [u128; BLOCKS])
-    requires { (count ≤ most_blocks) × (m < count) }
-    ensures { RowsDone (added grid.old m) grid.old count count grid.new }
+fn onward(m: usize, grid: &mut [u128])
+    requires { (length grid.old ≤ most_blocks) × (m < length grid.old) }
+    ensures { RowsDone (added grid.old m) grid.old (length grid.old) (length grid.old) grid.new }
 {
     let row_of_m = grid[m];
-    for b in 0..count {
-        grid[b] = joined(grid[b], m, row_of_m);
+    for row in grid.iter_mut() {
+        *row = joined(*row, m, row_of_m);
     }
 }
 
 // What each block reaches through calls.
-fn closed(calls: &Calls, grid: &mut [u128; BLOCKS])
-    requires { Tabled calls.now }
+fn closed(calls: &Calls, grid: &mut [u128])
+    requires { Tabled calls.now × (length grid.old ≡ calls.now.count) }
     ensures { Reaching (calling calls.now) calls.now.count calls.now.count grid.new }
 {
     direct(calls, grid);
     for m in 0..calls.count {
-        onward(calls.count, m, grid);
+        onward(m, grid);
     }
 }
 
@@ -80,7 +80,8 @@ pub fn fourteen(calls: &Calls) -> Option<usize>
     requires { Tabled calls.now }
     ensures { result ≡ found (bad14 (calling calls.now)) calls.now.count }
 {
-    let mut grid = [0u128; BLOCKS];
-    closed(calls, &mut grid);
+    let mut rows = [0u128; BLOCKS];
+    let grid = &mut rows[..calls.count];
+    closed(calls, grid);
     (0..calls.count).find(|b| has(grid[*b], *b))
 }
