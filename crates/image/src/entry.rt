@@ -13,19 +13,13 @@ impl Cursor {
         ensures { shown result ≡ entry_at s.now self.at }
     {
         match self.kind(s)? {
-            0x20 => {
-                let (l, next) = self.label(s)?;
-                Ok((Entry::From(l), next))
-            }
+            0x20 => self.label(s).map(|(l, next)| (Entry::From(l), next)),
             0x21 => {
                 let ((l, m), condition) = self.labels(s)?;
                 let (e, next) = condition.expression(s)?;
                 Ok((Entry::Either(l, m, e), next))
             }
-            0x22 => {
-                let (l, next) = self.label(s)?;
-                Ok((Entry::Begin(l), next))
-            }
+            0x22 => self.label(s).map(|(l, next)| (Entry::Begin(l), next)),
             _ => Err(self.fault(Code::Kind)),
         }
     }

@@ -15,10 +15,7 @@ impl Cursor {
     {
         let after_call = matches!(body, Instruction::Call(_));
         match self.kind(s)? {
-            0x30 => {
-                let (l, next) = self.label(s)?;
-                Ok((Exit::To(l), next))
-            }
+            0x30 => self.label(s).map(|(l, next)| (Exit::To(l), next)),
             0x31 => {
                 let ((l, m), condition) = self.labels(s)?;
                 if after_call {

@@ -38,18 +38,12 @@ impl Cursor {
         let kind = self.kind(s)?;
         let past = Cursor { at: self.at + 1 };
         match kind {
-            0x10 => {
-                let (a, next) = past.operand(s)?;
-                Ok((Expression::Plain(a), next))
-            }
-            0x11 => {
-                let (a, next) = past.operand(s)?;
-                Ok((Expression::Not(a), next))
-            }
+            0x10 => past
+                .operand(s)
+                .map(|(a, next)| (Expression::Plain(a), next)),
+            0x11 => past.operand(s).map(|(a, next)| (Expression::Not(a), next)),
             _ => {
-                let Some(operator) = operator_of(kind) else {
-                    return Err(self.fault(Code::Kind));
-                };
+                let operator = operator_of(kind).ok_or(self.fault(Code::Kind))?;
                 let (a, second) = past.operand(s)?;
                 let (b, next) = second.operand(s)?;
                 Ok((Expression::Two(operator, a, b), next))

@@ -49,18 +49,15 @@ impl Cursor {
             0x41 => self.update(s, past, Change::Subtract),
             0x42 => self.update(s, past, Change::Xor),
             0x43 => self.exchange(s, past),
-            0x44 => {
-                let (x, next) = self.variable(s)?;
-                Ok((Instruction::OpV(x), next))
-            }
-            0x45 => {
-                let (x, next) = self.variable(s)?;
-                Ok((Instruction::OpP(x), next))
-            }
-            0x46 => {
-                let (e, next) = past.expression(s)?;
-                Ok((Instruction::Assert(e), next))
-            }
+            0x44 => self
+                .variable(s)
+                .map(|(x, next)| (Instruction::OpV(x), next)),
+            0x45 => self
+                .variable(s)
+                .map(|(x, next)| (Instruction::OpP(x), next)),
+            0x46 => past
+                .expression(s)
+                .map(|(e, next)| (Instruction::Assert(e), next)),
             0x47 => Ok((Instruction::Skip, past)),
             0x51..=0x58 => self.call(s, entry, kind - 0x50),
             _ => Err(self.fault(Code::Kind)),

@@ -7,14 +7,15 @@ ghost use Rattle.image.specs.Shown.{shown};
 
 use crate::{Cursor, Fault};
 use rules::{Code, Operand, Target};
+use word_bytes::word_at;
 
 impl Cursor {
     #[tactic(auto, unfolding(rules::specs::Base::pick, rules::specs::Read::whole, rules::specs::Read::constant_at))]
     fn constant(self, s: &[u8]) -> Result<(Operand, Cursor), Fault>
         ensures { shown result ≡ constant_at s.now self.at }
     {
-        let body = self.body(s, 4)?;
-        let word = u32::from_le_bytes([body[0], body[1], body[2], body[3]]);
+        self.body(s, 4)?;
+        let word = word_at(s, self.at + 1);
         Ok((Operand::Constant(word), Cursor { at: self.at + 5 }))
     }
 
@@ -24,14 +25,10 @@ impl Cursor {
     {
         match self.kind(s)? {
             0x01 => self.constant(s),
-            0x02 => {
-                let (x, next) = self.variable(s)?;
-                Ok((Operand::Variable(x), next))
-            }
-            0x03 => {
-                let (x, next) = self.variable(s)?;
-                Ok((Operand::Cell(x), next))
-            }
+            0x02 => self
+                .variable(s)
+                .map(|(x, next)| (Operand::Variable(x), next)),
+            0x03 => self.variable(s).map(|(x, next)| (Operand::Cell(x), next)),
             _ => Err(self.fault(Code::Kind)),
         }
     }
@@ -42,14 +39,10 @@ impl Cursor {
         ensures { shown result ≡ target_at s.now self.at }
     {
         match self.kind(s)? {
-            0x02 => {
-                let (x, next) = self.variable(s)?;
-                Ok((Target::Variable(x), next))
-            }
-            0x03 => {
-                let (x, next) = self.variable(s)?;
-                Ok((Target::Cell(x), next))
-            }
+            0x02 => self
+                .variable(s)
+                .map(|(x, next)| (Target::Variable(x), next)),
+            0x03 => self.variable(s).map(|(x, next)| (Target::Cell(x), next)),
             _ => Err(self.fault(Code::Kind)),
         }
     }

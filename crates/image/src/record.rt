@@ -27,14 +27,10 @@ impl Cursor {
             (λ kind. (self.at < length s.now) × (kind ≡ slice_index s.now self.at))
             (λ f. (length s.now ≤ self.at) × (f ≡ record { code = Code.Cut; place = length s.now })) }
     {
-        if self.at < s.len() {
-            Ok(s[self.at])
-        } else {
-            Err(Fault {
-                code: Code::Cut,
-                place: s.len(),
-            })
-        }
+        s.get(self.at).copied().ok_or(Fault {
+            code: Code::Cut,
+            place: s.len(),
+        })
     }
 
     // The n bytes that follow the kind. 3: the image ends inside the record.
@@ -44,11 +40,9 @@ impl Cursor {
             × ((i : ℕ) → i < n → slice_index body.now i ≡ slice_index s.now (self.at + 1 + i)))
             (λ f. (length s.now ≤ self.at + n) × (f ≡ record { code = Code.Cut; place = self.at })) }
     {
-        if self.at < s.len() && n < s.len() - self.at {
-            Ok(&s[self.at + 1..self.at + 1 + n])
-        } else {
-            Err(self.fault(Code::Cut))
-        }
+        s.get(self.at..)
+            .and_then(|rest| rest.get(1..=n))
+            .ok_or(self.fault(Code::Cut))
     }
 
     pub fn label(self, s: &[u8]) -> Result<(u8, Cursor), Fault>
