@@ -21,15 +21,6 @@ use Rattle.ordered.proofs.Rising.{lower}
 
 -- ---- the lowest number that passes
 module _ (p : ℕ → Bool) where
-  from_le : (n at : ℕ) → lowest_from p n at ≤ at + n
-  unfolding lowest_from pick
-  from_le zero at = omega arith
-  from_le (suc n) at = go (p at) (from_le n (suc at))
-    where
-      go : (b : Bool) → lowest_from p n (suc at) ≤ suc at + n → pick b at (lowest_from p n (suc at)) ≤ at + suc n
-      go true h = omega arith
-      go false h = omega arith
-
   from-fails : (n at k : ℕ) → at ≤ k → k < lowest_from p n at → p k ≡ false
   unfolding lowest_from pick
   from-fails zero at k h l = absurd (omega arith)
@@ -38,10 +29,6 @@ module _ (p : ℕ → Bool) where
       go : (b : Bool) → p at ≡ b → (suc at ≤ k → k < lowest_from p n (suc at) → p k ≡ false) → k < pick b at (lowest_from p n (suc at)) → p k ≡ false
       go true e f s = absurd (omega arith)
       go false e f s = ⊎_elim (λ t. f t s) (λ t. let q : k ≡ at = omega arith in rw q e) (lt-or_le at k)
-
-  pub lowest-le : (n : ℕ) → lowest p n ≤ n
-  unfolding lowest
-  lowest-le n = omega (arith, from_le n 0)
 
   lowest-fails : (n k : ℕ) → k < lowest p n → p k ≡ false
   unfolding lowest
