@@ -14,7 +14,7 @@ ghost use Rattle.step.specs.Ready.{process_at, here_at, Ready, Apt, Plans};
 
 use leaf::place::Side;
 use leaf::plan::Move;
-use machine::{MOST_KEPT, MOST_ROWS};
+use machine::MOST_KEPT;
 use rules::{Block, Code, Exit, Names, Place};
 use standing::Process;
 use step::plan::Plan;
@@ -40,10 +40,7 @@ fn fork(m: &[u32], row: usize, into: u32, names: Names, exit: Exit) -> Result<Pl
     ensures { (program : List Block) → (block_of program into).instruction ≡ Instruction.Call names → (block_of program into).exit ≡ exit
         → Plans m.now result (Rules.fork program (view m.now) (process_at m.now row) into) }
 {
-    if MOST_ROWS < m[0] as usize + usize::from(names.count) {
-        return Err(Code::NoRoom);
-    }
-    let first = family::first_child(m, Process::of_row(m, row).identifier);
+    let first = family::room(m, Process::of_row(m, row).identifier, names.count)?;
     let to = leaf::place::place_on(m, Side::Exit(exit))?;
     Ok(Plan::Fork {
         row,

@@ -1,0 +1,2 @@
+-- Definitions that the contracts on a process's children cite.
+pub mod Room
