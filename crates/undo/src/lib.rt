@@ -18,7 +18,6 @@ ghost use Rattle.undo.specs.Freed.{BlocksBelow};
 
 use leaf::place::Side;
 use leaf::plan::Move;
-use machine::MOST_ROWS;
 use masks::Masks;
 use rules::{Block, Code, Names, Place};
 use standing::Process;
@@ -31,11 +30,7 @@ fn newest_free(m: &[u32], masks: &Masks, p: u32) -> Option<usize>
     ensures free { (program : List Block) → MasksOf program masks.now → BlocksBelow m.now (length program)
         → holds program (view m.now).history p ≡ is_none result }
 {
-    let entry = cause::newest::newest(m, p)?;
-    if cause::held::held(m, masks, entry) {
-        return None;
-    }
-    Some(entry)
+    cause::newest::newest(m, p).filter(|entry| !cause::held::held(m, masks, *entry))
 }
 
 // The undo of a leaf's step.
@@ -59,10 +54,7 @@ fn merge(m: &[u32], row: usize, names: Names, entry: usize) -> Result<Plan, Code
     ensures { (program : List Block) (b : ℕ) → (block_of program b).instruction ≡ Instruction.Call names
         → Plans m.now result (Rules.undo_merge program (view m.now) (process_at m.now row) b) }
 {
-    if MOST_ROWS < m[0] as usize + usize::from(names.count) {
-        return Err(Code::NoRoom);
-    }
-    let first = family::first_child(m, Process::of_row(m, row).identifier);
+    let first = family::room(m, Process::of_row(m, row).identifier, names.count)?;
     Ok(Plan::UndoMerge {
         row,
         names,
@@ -116,9 +108,7 @@ pub fn undo(m: &[u32], masks: &Masks, row: usize, block: &Block) -> Result<Plan,
     if !family::children_at(m, p, Place::BEGIN) {
         return Err(Code::Children);
     }
-    let Some(entry) = newest_free(m, masks, p) else {
-        return Err(Code::Held);
-    };
+    let entry = newest_free(m, masks, p).ok_or(Code::Held)?;
     let count = family::child_count(m, p);
     if count == 0 {
         return childless(m, row, block, entry);
