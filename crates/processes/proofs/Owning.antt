@@ -1,19 +1,17 @@
 -- The begins and ends of groups, block by block; code 11 and the labels of process blocks from them. Assumes nothing.
-use Prim.Native.Nat.{ℕ, zero, suc, ◌+◌, ◌*◌, ◌<◌, ◌≤◌}
+use Prim.Native.Nat.{ℕ, suc, ◌+◌, ◌*◌, ◌<◌, ◌≤◌}
 use native.Mathlib.Nat.{add-zero, zero-add, add-suc, suc-add}
 use native.Mathlib.Omega.{arith}
-use denote.Param.Members.{Mut, Called}
-use mathlib.Core.Path.{◌≡◌, refl, sym, ap, subst, fun_ext, ◌∙◌}
+use mathlib.Core.Path.{◌≡◌, refl, sym, ap, fun_ext, ◌∙◌}
 use mathlib.Core.Bool.{Bool, true, false, not, ◌&&◌}
 use mathlib.Core.Logic.{⊎_elim}
 use mathlib.Core.List.{List, [], ◌∷◌, ◌++◌, map, append_assoc, append-nil}
-use lib.ListN.{length, take, get_or, length-set, length-append, length-map, get_or-eq_default}
-use lib.Seq.{length-take-le, get_or-take, ext_get_or}
+use lib.ListN.{length, take, get_or, set, length-set, length-append, length-map, get_or-eq_default}
+use lib.Seq.{length-take-le, get_or-take, get_or-set_same, get_or-set_other, ext_get_or}
 use lib.Dec.{eqb}
 use borrow.Author.Tests.{ne_eqb, eqb-true}
 use Rattle.std.specs.Prelude.{Option, None, slice_get}
 use Rattle.std.specs.Option.{option_eq, option_or, unwrap_or}
-use Rattle.std.specs.Array.{IsFromFnResultFrom}
 use Rattle.rules.specs.Base.{pick, up_from}
 use Rattle.rules.specs.Labels.{label_node, ordinary_labels, renamed, join_nodes, join_labels, groups_from, groups}
 use Rattle.rules.specs.Labels.{within, own_begins, own_ends, begin_labels, one_label, bad11, home}
@@ -193,20 +191,11 @@ module _ (program : List Block) (gs : List ℕ) (o : Own) (e : gs ≡ groups pro
       get_or-take n homes b 0 l ∙ each b l ∙ home-is b
       ∙ sym (get_d_map (home program) (up_from 0 n) b 0 (rw (length-up_from 0 n) l) ∙ ap (home program) (get_or-up_from 0 n b l ∙ zero-add b)))
 
--- where the calls of a closure that stays as it is are h, what they made is h at each index
-pub made-each :
-    {F : Type 0} (g : Mut F (ℕ × Unit {0}) ℕ) (f : F) (h : ℕ → ℕ) → ((x y : ℕ) (q : F) → Called g f (x, tt) y q → (q ≡ f) × (y ≡ h x)) →
-    (ys : List ℕ) (n i : ℕ) (p : F) → p ≡ f → IsFromFnResultFrom g p ys i n → (k j : ℕ) → k < n → i + k ≡ j → get_or ys j 0 ≡ h j
-made-each g f h one ys zero i p e r k j lt at = absurd (omega arith)
-made-each {F} g f h one ys (suc n) i p e r k j lt at =
-    let made = one i r.1 r.0 (subst (λ (x : F). Called g x (i, tt) r.1 r.0) e r.3) in
-    go k lt at made (λ k' lt' at'. made-each g f h one ys n (i + 1) r.0 made.0 r.4 k' j lt' at') (r.2.1 0)
-  where
-    go :
-        (k : ℕ) → k < suc n → i + k ≡ j → {q : F} → (q ≡ f) × (r.1 ≡ h i) → ((k' : ℕ) → k' < n → i + 1 + k' ≡ j → get_or ys j 0 ≡ h j) →
-        get_or ys i 0 ≡ r.1 → get_or ys j 0 ≡ h j
-    go zero lt at made rest here = let e : i ≡ j = omega arith in subst (λ (x : ℕ). get_or ys x 0 ≡ h x) e (here ∙ made.1)
-    go (suc k) lt at made rest here = rest k (omega arith) (omega arith)
+-- one more element is set to what f has there
+pub set-each :
+    (f : ℕ → ℕ) (ys : List ℕ) (i v : ℕ) → i < length ys → v ≡ f i → ((k : ℕ) → k < i → get_or ys k 0 ≡ f k) → (k : ℕ) → k < i + 1 → get_or (set ys i v) k 0 ≡ f k
+set-each f ys i v lt at before k h =
+    ⊎_elim (λ less. get_or-set_other ys i k v 0 (λ e. absurd (omega arith)) ∙ before k less) (λ least. let e : k ≡ i = omega arith in rw e (get_or-set_same ys i v 0 lt ∙ at)) (lt-or_le k i)
 
 -- the same test finds the same
 pub found-same : (p q : ℕ → Bool) (n : ℕ) → ((k : ℕ) → p k ≡ q k) → found p n ≡ found q n

@@ -63,6 +63,10 @@ impl Own {
     pub fn homes(&self, groups: &Groups) -> [u8; 128]
         ensures { (b : ℕ) → b < most_blocks → get_or result b 0 ≡ first_begin self.now (get_or groups.now.numbers b 0) }
     {
-        std::array::from_fn(|b| self.home(b, groups))
+        let mut homes = [0; 128];
+        for b in 0..128 {
+            homes[b] = self.home(b, groups);
+        }
+        homes
     }
 }
