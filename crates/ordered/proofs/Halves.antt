@@ -1,4 +1,7 @@
 -- A row looked for by halves among rows that ascend. Assumes nothing.
+use Rattle.std.specs.Prelude.{Option, Some, None}
+use Rattle.std.specs.Bool.{then_some}
+use Rattle.laws.specs.Found.{or_else}
 use Prim.Native.Nat.{ℕ, ◌+◌, ◌-◌, ◌*◌, ◌<◌, ◌≤◌}
 use native.Mathlib.Omega.{arith}
 use mathlib.Core.Path.{◌≡◌, refl, sym, ◌∙◌}
@@ -104,3 +107,14 @@ module _ (w ids : List ℕ) (o : Ordered w) (t : Identifiers w ids) (p r : ℕ) 
           go : (b : Bool) → eqb i r ≡ b → eqb (get_or w (290 + 3 * i) 0) p ≡ false
           go true q = let e : i ≡ r = eqb-true i r q in ne_eqb (get_or w (290 + 3 * i) 0) p (λ s. f (omega arith) (t.rows r (omega arith) ∙ rw (← e) s))
           go false q = other i l (eqb-false i r q)
+
+  pub found-if : (q : Option ℕ) → r < live_count w → q ≡ then_some (eqb (get_or ids r 0) p) r → or_else q (live_count w) ≡ row_of w p
+  found-if q l e = go (eqb (get_or ids r 0) p) refl
+    where
+      go : (b : Bool) → eqb (get_or ids r 0) p ≡ b → or_else q (live_count w) ≡ row_of w p
+      go true h =
+          let k : q ≡ Some r = rw h at e in
+          rw k (found l (eqb-true _ _ h))
+      go false h =
+          let k : q ≡ None = rw h at e in
+          rw k (lost (λ n x. eqb-false _ _ h x))

@@ -53,9 +53,5 @@ pub fn row_in(m: &[u32], ids: &[u32; 64], identifier: u32) -> Option<usize>
     ensures live { IfSome result (λ i. i < live_count m.now) }
 {
     let row = candidate(ids, identifier);
-    if row < m[0] as usize && ids[row] == identifier {
-        Some(row)
-    } else {
-        None
-    }
+    (row < m[0] as usize && ids[row] == identifier).then_some(row)
 }
