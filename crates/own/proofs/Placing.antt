@@ -5,7 +5,7 @@ use native.Mathlib.Omega.{arith}
 use mathlib.Core.Path.{◌≡◌, refl, sym, ap, ◌∙◌}
 use mathlib.Core.Bool.{false}
 use mathlib.Core.List.{List, [], ◌∷◌, map}
-use Rattle.std.proofs.Common.{Option}
+use Rattle.std.proofs.Common.{Option, None}
 use lib.ListN.{length, take, drop, get_or, get_elem?, get_or-eq_default, get_or-map}
 use lib.Seq.{get_or-take}
 use lib.Dec.{eqb}
@@ -81,6 +81,10 @@ pub given-get : (l : List ℕ) (i : ℕ) → given (slice_get l i) ≡ get_elem?
 given-get [] i = refl
 given-get (a ∷ l) zero = refl
 given-get (a ∷ l) (suc i) = given-get l i
+
+pub nth-none : (l : List ℕ) (i : ℕ) (r : Option ℕ) → (1 ≤ i → ⊥) → r ≡ None → given r ≡ nth l i
+nth-none l zero r f e = ap given e
+nth-none l (suc i) r f e = absurd (f (omega arith))
 
 pub nth-get : (l : List ℕ) (i : ℕ) (r : Option ℕ) → (i ≡ 0 → ⊥) → r ≡ slice_get l (i - 1) → given r ≡ nth l i
 nth-get l zero r f e = absurd (f refl)

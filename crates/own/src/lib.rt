@@ -59,10 +59,8 @@ pub fn called_at<'a>(places: &Places, calls: &'a Calls, label: u32, stage: u32) 
 fn nth(labels: &[u8], i: u32) -> Option<u8>
     ensures { given result ≡ nth labels.now i }
 {
-    match i {
-        0 => None,
-        _ => labels.get(i as usize - 1).copied(),
-    }
+    let at = (i as usize).checked_sub(1)?;
+    labels.get(at).copied()
 }
 
 // The label of a process's own process block; none where its parent is not live, or names no such child.
