@@ -23,7 +23,7 @@ use rules::{Block, Code};
 use step::plan::Plan;
 
 // The machine fits the image.
-fn machine_fits(m: &[u32], blocks: &[Block], places: &Places) -> bool
+pub fn machine_fits(m: &[u32], blocks: &[Block], places: &Places) -> bool
     requires { (length m.now ≡ 8674) × (length blocks.now ≤ 128) × PlacesOf blocks.now places.now }
     ensures { result ≡ Rules.fits blocks.now m.now }
 {

@@ -21,7 +21,9 @@ returns-in_err-direction c =
     let s = c.args in
     let fit = c.in_ok-places.ensures in
     let n = no-direction s.direction _ c.in_err-direction.ensures in
-    refusing_as c.args.m.now _ (ap (λ (x : Code). refuse (number x) 0 s.m.now) n.1 ∙ code-19 s.blocks.now s.m.now s.process s.direction fit.0 fit.1 n.0) (search rules)
+    refusing_as c.args.m.now _
+    (ap (λ (x : Code). refuse (number x) 0 s.m.now) n.1
+    ∙ code-19 s.blocks.now s.m.now s.process s.direction fit.0 fit.1 n.0) (search rules)
 
 pub row_of-requires : goal.row_of-requires
 row_of-requires c =
