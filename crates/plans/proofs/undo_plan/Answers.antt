@@ -16,8 +16,8 @@ undo-requires c =
     let w = c.args.m.now in
     let program = c.args.blocks.now in
     let e =
-        c.unwrap_or-out.ensures ∙ unwrapped c.exit_block.result c.args.places.now.count
-        ∙ c.exit_block.ensures.block program c.requires.3 ∙ ap (exit_block program) c.of_row.ensures.stands in (
+    c.unwrap_or-out.ensures ∙ unwrapped c.exit_block.result c.args.places.now.count
+    ∙ c.exit_block.ensures.block program c.requires.3 ∙ ap (exit_block program) c.of_row.ensures.stands in (
       ready_of program w c.requires.0 c.args.row c.requires.2,
       apt_block program w c.requires.0 c.args.row c.requires.2 (inr e) c.block_at-block.ensures,
       below-128 program w c.requires.0,
@@ -28,6 +28,6 @@ returns c =
     let w = c.args.m.now in
     let program = c.args.blocks.now in
     let e =
-        c.unwrap_or-out.ensures ∙ unwrapped c.exit_block.result c.args.places.now.count
-        ∙ c.exit_block.ensures.block program c.requires.3 ∙ ap (exit_block program) c.of_row.ensures.stands in
+    c.unwrap_or-out.ensures ∙ unwrapped c.exit_block.result c.args.places.now.count
+    ∙ c.exit_block.ensures.block program c.requires.3 ∙ ap (exit_block program) c.of_row.ensures.stands in
     c.undo.ensures program c.requires.4 (blocks-below program w c.requires.0) (ap (block_of program) (sym e) ∙ sym c.block_at-block.ensures)
