@@ -1,6 +1,7 @@
 // The readiness answers, document 01, "The list": for each live process the code that a forward step would answer, and that an undo
 // would. They only read.
-ghost use Rattle.std.specs.Prelude.{◌≡◌, ◌<◌, ◌≤◌, List, ℕ, length};
+ghost use Rattle.std.specs.Prelude.{◌≡◌, ◌<◌, ◌≤◌, List, ℕ, length, MatchResult};
+ghost use Rattle.rules.specs.Codes.{number};
 ghost use Rattle.rules.specs.Machine.{Machine, live_count, view};
 ghost use Rattle.rules.specs.Step.{forward, undo};
 ghost use Rattle.rules.specs.Leaf.{Tried};
@@ -19,9 +20,10 @@ use rules::{Block, Code, Refused, Row};
 use standing::Process;
 use step::plan::Plan;
 
-// The code that a step by the plan answers.
+// The code that a step by the plan answers: 0 by any plan, else its refusal's.
 fn code_of(plan: Result<Plan, Code>) -> u32
-    ensures { (w : List ℕ) (tried : Tried Machine) → Plans w plan tried → result ≡ List·code_of tried }
+    ensures code { MatchResult plan (λ p. result ≡ 0) (λ code. result ≡ number code) }
+    ensures listed { (w : List ℕ) (tried : Tried Machine) → Plans w plan tried → result ≡ List·code_of tried }
 {
     match plan {
         Ok(_) => 0,

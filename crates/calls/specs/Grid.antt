@@ -1,6 +1,6 @@
 -- A grid of 128 by 128 bits, a row in each word, in which the rows of the first n blocks tell what each of them reaches.
 -- For `fourteen` and its callees.
-use Rattle.std.specs.Prelude.{◌≡◌, List, ℕ, ◌+◌, ◌/◌, ◌%◌, ◌^◌, ◌<◌, ◌≤◌, min, max, length, get_or}
+use Rattle.std.specs.Prelude.{◌≡◌, List, ℕ, ◌+◌, ◌/◌, ◌%◌, ◌^◌, ◌<◌, ◌≤◌, min, max, length, get_or, eqb}
 use Rattle.rules.specs.Value.{flag}
 use Rattle.rules.specs.Calls.{Calling, reaches_over}
 
@@ -15,6 +15,10 @@ cell grid b c = bit_of (get_or grid b 0) c
 pub record Word (f : ℕ → ℕ) (k many w : ℕ) : Type 0 where
   pub fits : w < 2 ^ many
   pub each : (j : ℕ) → j < many → bit_of w j ≡ f (k + j)
+
+-- for each label the blocks of its process block, of the first n
+abbrev pub Members : List ℕ → ℕ → List ℕ → Type 0
+Members homes n table = (l : ℕ) → l < 256 → Word (λ c. flag (eqb l (get_or homes c 0))) 0 n (get_or table l 0)
 
 -- a row joined with that of block m, where it reaches block m
 pub record Joined (row m row_of_m new : ℕ) : Type 0 where

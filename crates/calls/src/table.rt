@@ -1,6 +1,6 @@
 // The table of calls that codes 14 and 15 are judged on.
 ghost use Rattle.std.specs.Prelude.{◌≡◌, ◌<◌};
-ghost use Rattle.rules.specs.Calls.{calls_at, reaches_over};
+ghost use Rattle.rules.specs.Calls.{calls_at};
 ghost use Rattle.calls.specs.Table.{calling, Tabled};
 
 // Of each of `count` blocks the label of its process block, how many labels it calls (0 where it is no call), and eight
@@ -22,15 +22,5 @@ impl Calls {
     {
         let first = 8 * b;
         &self.names[first..first + usize::from(self.counts[b])]
-    }
-
-    // Whether block b's call names the process block of block c.
-    pub(crate) fn named(&self, b: usize, c: usize) -> bool
-        requires tabled { Tabled self.now }
-        requires b_lt_count { (b < self.now.count) × (c < self.now.count) }
-        ensures { result ≡ reaches_over (calling self.now) 0 b c }
-    {
-        let home = self.homes[c];
-        self.called(b).contains(&home)
     }
 }

@@ -1,14 +1,14 @@
-// The commit of a plan: the machine's words become those of the machine that the plan makes.
+// The commit of a plan: the machine's words become those of the machine that the plan makes, and stay as they are where it is refused.
 #![tactic(auto)]
 
-ghost use Rattle.std.specs.Prelude.{◌≡◌, length};
+ghost use Rattle.std.specs.Prelude.{◌≡◌, length, IfOk};
 ghost use Rattle.rules.specs.Machine.{pack, view};
-ghost use Rattle.evaluate.specs.Shown.{WritesFit};
-ghost use Rattle.step.specs.Planned.{Lent, PlanFit, LeafFit, ForkFit, MergeFit, UndoLeafFit, UndoForkFit, UndoMergeFit};
+ghost use Rattle.evaluate.specs.Shown.{WritesFit, tried_as};
+ghost use Rattle.step.specs.Planned.{Lent, left, PlanFit, LeafFit, ForkFit, MergeFit, UndoLeafFit, UndoForkFit, UndoMergeFit};
 ghost use Rattle.step.specs.Planned.{writes_made, planned, leaf_made, fork_made, merge_made, undo_leaf_made, undo_fork_made, undo_merge_made};
 
 use evaluate::Writes;
-use rules::{Names, Place};
+use rules::{Code, Names, Place};
 use standing::Process;
 use step::plan::Plan;
 
@@ -87,7 +87,7 @@ fn undo_merge(m: &mut [u32], row: usize, names: Names, first: usize, entry: usiz
 }
 
 #[tactic(auto, unfolding(step::specs::Planned::planned))]
-pub fn commit(m: &mut [u32], plan: Plan)
+fn make(m: &mut [u32], plan: Plan)
     requires { Lent m.old × PlanFit plan (view m.old) }
     ensures { m.new ≡ pack (planned plan (view m.old)) }
 {
@@ -130,5 +130,15 @@ pub fn commit(m: &mut [u32], plan: Plan)
             first,
             entry,
         } => undo_merge(m, row, names, first, entry),
+    }
+}
+
+// A refusal in a plan's place leaves the words as they are.
+pub fn commit(m: &mut [u32], plan: Result<Plan, Code>)
+    requires { Lent m.old × IfOk plan (λ p. PlanFit p (view m.old)) }
+    ensures { m.new ≡ left (tried_as (λ p. planned p (view m.old)) plan) m.old }
+{
+    if let Ok(plan) = plan {
+        make(m, plan);
     }
 }

@@ -32,7 +32,7 @@ fn raise(counts: &mut [u16; 256], labels: &[u8])
 
 impl Counts {
     // The labels of all blocks counted.
-    pub fn of(blocks: &[Block]) -> Counts
+    pub(crate) fn of(blocks: &[Block]) -> Counts
         requires { length blocks.now ≤ most_blocks }
         ensures { CountsOf blocks.now result }
     {
@@ -89,7 +89,7 @@ impl Counts {
     }
 
     // A label of the block does not stand as it must.
-    pub fn is_bad(&self, block: &Block) -> bool
+    pub(crate) fn is_bad(&self, block: &Block) -> bool
         ensures { result ≡ bad_by self.now block.now }
     {
         !(self.all_ordinary(short::of_entry(block.entry))

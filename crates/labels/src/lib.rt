@@ -7,7 +7,7 @@ ghost use Rattle.std.specs.Prelude.{◌≤◌, length};
 ghost use Rattle.rules.specs.Format.{most_blocks};
 ghost use Rattle.labels.specs.Counts.{LabelledOf};
 
-use counts::Counts;
+pub use counts::Counts;
 use rules::Block;
 
 // The lowest block that is refused; and in how many begins each label stands.

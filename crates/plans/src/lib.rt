@@ -64,6 +64,7 @@ pub fn finish(m: &mut [u32], plan: Result<Plan, Code>) -> Result<(), Code>
     requires { Committed plan m.old }
     ensures { ended result m.new ≡ made_by plan m.old }
 {
-    commit::commit(m, plan?);
+    let plan = plan?;
+    commit::commit(m, Ok(plan));
     Ok(())
 }

@@ -10,7 +10,7 @@ ghost use Rattle.rules.specs.Format.{most_blocks};
 ghost use Rattle.processes.specs.Own.{ProcessesOf};
 
 use grouped::Groups;
-use own::Own;
+pub use own::Own;
 use rules::Block;
 
 // Groups go by the numbers of 128 blocks and 256 labels.

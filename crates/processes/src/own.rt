@@ -17,7 +17,7 @@ pub struct Own {
 }
 
 impl Own {
-    pub fn of(blocks: &[Block], groups: &Groups) -> Own
+    pub(crate) fn of(blocks: &[Block], groups: &Groups) -> Own
         requires { length blocks.now ≤ most_blocks }
         ensures { OwnOf groups.now.numbers blocks.now result }
     {
@@ -44,7 +44,7 @@ impl Own {
     }
 
     // The lowest of n blocks whose process block is not whole.
-    pub fn first_bad(&self, n: usize, groups: &Groups) -> Option<usize>
+    pub(crate) fn first_bad(&self, n: usize, groups: &Groups) -> Option<usize>
         requires { n ≤ most_blocks }
         ensures { result ≡ found (λ b. not (one_at self.now (get_or groups.now.numbers b 0))) n }
     {
@@ -60,7 +60,7 @@ impl Own {
     }
 
     // That of each block.
-    pub fn homes(&self, groups: &Groups) -> [u8; 128]
+    pub(crate) fn homes(&self, groups: &Groups) -> [u8; 128]
         ensures { (b : ℕ) → b < most_blocks → get_or result b 0 ≡ first_begin self.now (get_or groups.now.numbers b 0) }
     {
         let mut homes = [0; 128];

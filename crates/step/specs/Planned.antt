@@ -1,8 +1,9 @@
 -- What a plan makes of a machine, with rows and entries named by their place; and what a plan asks of the machine that it is for.
 use Rattle.std.specs.Prelude.{ℕ, ◌+◌, ◌<◌, ◌≤◌, ◌≡◌, true, List, length, get_or}
 use Rattle.rules.specs.Format.{named}
-use Rattle.rules.specs.Machine.{Machine, place, begin, end}
+use Rattle.rules.specs.Machine.{Machine, place, begin, end, pack}
 use Rattle.rules.specs.Fits.{counts_fit, unused_zero}
+use Rattle.rules.specs.Leaf.{Tried, made, refused}
 use Rattle.rules.specs.Step.{child_rows}
 use Rattle.rules.specs.declared.Names.{Names}
 use Rattle.rules.specs.declared.Place.{Place}
@@ -58,6 +59,11 @@ planned (Plan.Merge row block first count) m = merge_made m row block first coun
 planned (Plan.UndoLeaf row q writes entry) m = undo_leaf_made m row q writes entry
 planned (Plan.UndoFork row q first count entry) m = undo_fork_made m row q first count entry
 planned (Plan.UndoMerge row names first entry) m = undo_merge_made m row names first entry
+
+-- the words that a try leaves: as they were where it is refused
+abbrev pub left : Tried Machine → List ℕ → List ℕ
+left (made m) w = pack m
+left (refused code) w = w
 
 -- ---- what a plan asks: rows, entries and writes that there are, and room
 pub record LeafFit (m : Machine) (row : ℕ) (writes : Writes) : Type 0 where
