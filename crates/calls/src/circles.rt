@@ -61,7 +61,7 @@ fn direct(calls: &Calls, grid: &mut [u128])
     }
 }
 
-// A row takes in what block m adds to it: the row of block m, where block m is reached. (Most rows are only read.)
+// A row takes in what block m adds to it: the row of block m, where block m is reached. (Any other row is only read.)
 fn join(row: &mut u128, m: usize, row_of_m: u128)
     requires { m < most_blocks }
     ensures { Joined row.old m row_of_m row.new }

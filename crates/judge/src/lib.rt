@@ -48,7 +48,7 @@ pub fn judge_blocks(blocks: &[Block]) -> Result<Accepted, Refused>
     })
 }
 
-// Any bytes get exactly the answer of document 01. (Not inlined, so that the blocks never lie on the stack beside a caller's words.)
+// Any bytes get exactly the answer of document 01. (Not inlined, so that the blocks are off the stack again when the caller goes on.)
 #[inline(never)]
 pub fn judge(image: &[u8]) -> Result<Accepted, Refused>
     ensures { judged result ≡ judgement image.now }

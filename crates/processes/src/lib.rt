@@ -12,6 +12,7 @@ ghost use Rattle.processes.specs.Own.{ProcessesOf};
 use grouped::Groups;
 pub use own::Own;
 use rules::Block;
+pub use tally::Tally;
 
 // Groups go by the numbers of 128 blocks and 256 labels.
 const NODES: usize = 384;

@@ -17,7 +17,7 @@ pub struct Tally {
 }
 
 impl Tally {
-    pub fn blank() -> Tally
+    pub(crate) fn blank() -> Tally
         ensures { result ≡ blank_tally }
     {
         Tally {
@@ -27,7 +27,7 @@ impl Tally {
     }
 
     // The labels noted in group g, where the first label noted stays.
-    pub fn note(&mut self, g: usize, list: Few)
+    pub(crate) fn note(&mut self, g: usize, list: Few)
         requires { (g < all_nodes) × (get_or self.old.counts g 0 ≤ most) }
         ensures { self.new ≡ noted self.old g (few list) }
     {

@@ -61,7 +61,7 @@ fn wrong_length(image: &[u8]) -> Refused
     }
 }
 
-// Starts a machine for an image that is accepted. (Not inlined, so that a machine's words never lie on the stack below judging.)
+// Starts a machine for an image that is accepted. (Not inlined, so that its words are not on the stack yet while the image is judged.)
 #[inline(never)]
 fn start_bytes(first: &[u8], machine: &mut [u8]) -> Result<(), Code>
     ensures { (p : List Block) → ended result machine.new ≡ start_bytes_in first.now machine.old p }
