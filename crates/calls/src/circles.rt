@@ -9,12 +9,10 @@ ghost use Rattle.laws.specs.Found.{found};
 ghost use Rattle.calls.specs.Table.{calling, Tabled};
 ghost use Rattle.calls.specs.Grid.{bit_of, Word, Members, Joined, RowsDone, added, Reaching};
 
-use super::Calls;
+use super::{Calls, LABELS};
 
 // A row has a bit for each of as many blocks, and there are as many rows.
 const BLOCKS: usize = 128;
-
-const LABELS: usize = 256;
 
 // Whether bit k of a row is 1.
 fn has(row: u128, k: usize) -> bool

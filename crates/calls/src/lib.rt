@@ -8,3 +8,6 @@ mod table;
 pub use circles::fourteen;
 pub use peaks::main_peak;
 pub use table::Calls;
+
+// Labels are bytes.
+const LABELS: usize = 256;

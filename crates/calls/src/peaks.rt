@@ -7,14 +7,12 @@ ghost use Rattle.laws.specs.Acyclic.{Acyclic};
 ghost use Rattle.calls.specs.Table.{calling, Tabled};
 ghost use Rattle.calls.specs.Peaks.{levels_tried, unless_over, peak_within, Memo, peak_unless_refused};
 
-use super::Calls;
+use super::{Calls, LABELS};
 
 // The rows that the machine has.
 const ROWS: u8 = 64;
 
 const LEVELS: usize = 9;
-
-const LABELS: usize = 256;
 
 const MAIN: u8 = 0;
 
